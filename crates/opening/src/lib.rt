@@ -1,0 +1,1 @@
+// Opening a protocol table: rules 1 to 11 in order, and the room that is lent.

@@ -1,0 +1,6 @@
+pub mod Part
+pub mod Absent
+pub mod Merge
+pub mod Projection
+pub mod Layout
+pub mod mirror

@@ -1,0 +1,1 @@
+// The part of each role: projection and merge.

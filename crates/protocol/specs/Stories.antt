@@ -1,0 +1,42 @@
+-- Document 01, 'Marked tables': what it says of sessions over T5 and T9, by computation. Assumes nothing.
+use Prim.Native.Nat.{ℕ, zero, suc, _*_}
+use mathlib.Core.List.{List, [], _∷_, _++_}
+use mathlib.Core.Path.{_≡_, refl}
+use native.Mathlib.Decide.{ℕ-discrete}
+use Rattle.words.specs.Below.{lowest, every, sum}
+use Rattle.table.specs.Limits.{base}
+use Rattle.table.specs.Rules.{breaks}
+use Rattle.table.specs.Tree.{treeOf}
+use Rattle.parts.specs.Merge.{merge}
+use Rattle.opening.specs.Opening.{blocks}
+use Rattle.opening.specs.Marked.{t5, t9}
+use Rattle.session.specs.Head.{chain, find}
+use Rattle.session.specs.Calls.{freshOf, sendOf, receiveOf}
+use Rattle.session.specs.Awaited.{awaitedOf}
+use Rattle.session.specs.declared.Session.{Session}
+use Rattle.session.specs.declared.Answer.{Answer}
+
+-- what role 0 says and role 1 hears over T5's tables
+pub data Call : Type 0 where
+  says-1 hears : Call
+
+unfoldable pub answer : Call → Session → Answer
+unfolding sendOf receiveOf blocks t5
+answer says-1 s = sendOf base (blocks t5 3) 3 0 1 1 7 s
+answer hears s = receiveOf base (blocks t5 3) 3 0 1 s
+
+-- the numbers of a list of calls, one after the other
+unfoldable pub numbers : List Call → Session → List ℕ
+unfolding answer
+numbers [] s = []
+numbers (c ∷ cs) s = let a = answer c s in a .number ∷ numbers cs (a .state)
+
+-- role 0 may send label 1 four times before role 1 receives; the fifth is FULL; after one receive it is accepted
+pub t5-story : numbers (says-1 ∷ says-1 ∷ says-1 ∷ says-1 ∷ says-1 ∷ hears ∷ says-1 ∷ []) (freshOf base (blocks t5 3) 3 .state) ≡ 0 ∷ 0 ∷ 0 ∷ 0 ∷ 17 ∷ 0 ∷ 0 ∷ []
+unfolding numbers freshOf every merge ℕ-discrete chain find
+t5-story = refl
+
+-- T9 is finished when fresh: every role stands at an end, and nobody is awaited
+pub t9-finished : awaitedOf base (blocks t9 2) 2 (freshOf base (blocks t9 2) 2 .state) .set ≡ 0
+unfolding awaitedOf freshOf blocks t9 every sum
+t9-finished = refl

@@ -1,0 +1,111 @@
+-- Document 01, 'Sessions' and 'What comes back': fresh, send and receive, for every input. Assumes nothing.
+use Prim.Native.Nat.{ℕ, zero, suc, _+_}
+use mathlib.Core.Bool.{Bool, true, false, cond, not}
+use mathlib.Core.List.{List, [], _∷_, _++_}
+use mathlib.Core.Option.{Option, none, some}
+use lib.Dec.{ltb, leb, eqb}
+use lib.ListN.{replicate}
+use Rattle.words.specs.Below.{every}
+use Rattle.table.specs.Limits.{Limits}
+use Rattle.table.specs.Numbers.{ACCEPTED}
+use Rattle.session.specs.Numbers.{TABLES, STATE, PARTY, TURN, LABEL, FULL, EMPTY, STRAY}
+use Rattle.session.specs.Block.{PartRow, End, Arm, Loop, Back, Send, Receive, Other, partRow}
+use Rattle.session.specs.Head.{head, armsOf, find, ArmAt}
+use Rattle.session.specs.Tables.{tablesGood}
+use Rattle.session.specs.State.{headOf, held, labelAt, payloadAt, nothing, arePair, stateGood, moved, pushed, taken}
+use Rattle.session.specs.declared.Session.{Session}
+use Rattle.session.specs.declared.Answer.{Answer}
+
+-- a number and a state, and no message. A refused call hands back the state that it was given
+abbrev pub answers : ℕ → Session → Answer
+answers n s = record { number = n; label = 0; payload = 0; state = s }
+
+-- refused with that number where the test holds; else the rest
+abbrev pub unless : ℕ → Bool → Session → Answer → Answer
+unless n broken s rest = cond broken (answers n s) rest
+
+-- rules 12, 13 and 14, then the rest
+abbrev pub standing : Limits → List ℕ → ℕ → ℕ → ℕ → Session → Answer → Answer
+standing lim ts roles p q s rest =
+    unless TABLES (not (tablesGood lim ts roles)) s (
+    unless STATE (not (stateGood lim ts roles s)) s (
+    unless PARTY (not (arePair roles p q)) s rest))
+
+-- each role at the head of row 0, absent roles at 0
+unfoldable pub firstHeads : List ℕ → ℕ → ℕ → List ℕ
+unfolding head
+firstHeads ts roles zero = []
+firstHeads ts roles (suc n) = firstHeads ts roles n ++ (cond (ltb n roles) (head ts roles n 0) 0 ∷ [])
+
+-- a fresh session: refused with 12 it is all zeros
+unfoldable pub freshOf : Limits → List ℕ → ℕ → Answer
+unfolding tablesGood firstHeads
+freshOf lim ts roles =
+    unless TABLES (not (tablesGood lim ts roles)) (nothing lim) (
+    record {
+      number = ACCEPTED;
+      label = 0;
+      payload = 0;
+      state = record {
+        heads = firstHeads ts roles (lim .roles);
+        counts = nothing lim .counts;
+        labels = nothing lim .labels;
+        payloads = nothing lim .payloads;
+      };
+    })
+
+-- rules 16 and 17: p sends l to q with the payload v; `found` is the continuation of the head's arm with the label l
+unfoldable pub sendArm : Limits → List ℕ → ℕ → ℕ → ℕ → ℕ → ℕ → Session → Option ℕ → Answer
+sendArm lim ts roles p q l v s none = answers LABEL s
+sendArm lim ts roles p q l v s (some c) =
+    unless FULL (leb (lim .depth) (held lim s p q)) s (
+    answers ACCEPTED (moved (pushed lim s p q l v) p (head ts roles p c)))
+
+-- rule 15: the head of p is a send to q
+unfoldable pub sendAt : Limits → List ℕ → ℕ → ℕ → ℕ → ℕ → ℕ → Session → PartRow → Answer
+unfolding sendArm
+sendAt lim ts roles p q l v s (End a b c) = answers TURN s
+sendAt lim ts roles p q l v s (Arm k c n) = answers TURN s
+sendAt lim ts roles p q l v s (Loop b x y) = answers TURN s
+sendAt lim ts roles p q l v s (Back j x y) = answers TURN s
+sendAt lim ts roles p q l v s (Send peer f x) =
+    unless TURN (not (eqb peer q)) s (sendArm lim ts roles p q l v s (find l (armsOf ts roles p f)))
+sendAt lim ts roles p q l v s (Receive peer f x) = answers TURN s
+sendAt lim ts roles p q l v s Other = answers TURN s
+
+-- p sends the label l with the payload v to q
+unfoldable pub sendOf : Limits → List ℕ → ℕ → ℕ → ℕ → ℕ → ℕ → Session → Answer
+unfolding sendAt tablesGood stateGood
+sendOf lim ts roles p q l v s =
+    standing lim ts roles p q s (sendAt lim ts roles p q l v s (partRow ts roles p (headOf s p)))
+
+-- rule 19: q receives from p; `found` is the continuation of the head's arm with the first held label
+unfoldable pub receiveArm : Limits → List ℕ → ℕ → ℕ → ℕ → Session → Option ℕ → Answer
+receiveArm lim ts roles p q s none = answers STRAY s
+receiveArm lim ts roles p q s (some c) =
+    record {
+      number = ACCEPTED;
+      label = labelAt lim s p q 0;
+      payload = payloadAt lim s p q 0;
+      state = moved (taken lim s p q) q (head ts roles q c);
+    }
+
+-- rule 15: the head of q is a receive from p; and rule 18
+unfoldable pub receiveAt : Limits → List ℕ → ℕ → ℕ → ℕ → Session → PartRow → Answer
+unfolding receiveArm
+receiveAt lim ts roles p q s (End a b c) = answers TURN s
+receiveAt lim ts roles p q s (Arm k c n) = answers TURN s
+receiveAt lim ts roles p q s (Loop b x y) = answers TURN s
+receiveAt lim ts roles p q s (Back j x y) = answers TURN s
+receiveAt lim ts roles p q s (Send peer f x) = answers TURN s
+receiveAt lim ts roles p q s (Receive peer f x) =
+    unless TURN (not (eqb peer p)) s (
+    unless EMPTY (eqb (held lim s p q) 0) s (
+    receiveArm lim ts roles p q s (find (labelAt lim s p q 0) (armsOf ts roles q f))))
+receiveAt lim ts roles p q s Other = answers TURN s
+
+-- q receives from p
+unfoldable pub receiveOf : Limits → List ℕ → ℕ → ℕ → ℕ → Session → Answer
+unfolding receiveAt tablesGood stateGood
+receiveOf lim ts roles p q s =
+    standing lim ts roles p q s (receiveAt lim ts roles p q s (partRow ts roles q (headOf s q)))
