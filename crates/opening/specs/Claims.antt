@@ -24,14 +24,14 @@ claim = refl
 
 -- the parts that document 01 states, as blocks: the words of the part, then zeros
 pub t2-role-2 : blockOf t2 (partOf t2 2) ≡ 6 ∷ 1 ∷ 1 ∷ 0 ∷ 2 ∷ 3 ∷ 2 ∷ 3 ∷ 0 ∷ 0 ∷ 0 ∷ 0 ∷ 2 ∷ 4 ∷ 4 ∷ 0 ∷ 0 ∷ 0 ∷ 0 ∷ 0 ∷ replicate 16 0
-unfolding t2 blockOf partOf merge ℕ-discrete
+unfolding blockOf partOf merge ℕ-discrete
 t2-role-2 = refl
 
 pub t7-role-2 : blockOf t7 (partOf t7 2) ≡ 3 ∷ 1 ∷ 0 ∷ 0 ∷ 5 ∷ 0 ∷ 2 ∷ 0 ∷ 2 ∷ 7 ∷ 3 ∷ 0 ∷ 3 ∷ 4 ∷ 0 ∷ 0 ∷ 4 ∷ 0 ∷ 0 ∷ 0 ∷ replicate 8 0
-unfolding t7 blockOf partOf merge ℕ-discrete
+unfolding blockOf partOf merge ℕ-discrete
 t7-role-2 = refl
 
 -- T5's role 2 ends at once
 pub t5-role-2 : partOf t5 2 ≡ some p-end
-unfolding t5 partOf
+unfolding partOf
 t5-role-2 = refl

@@ -21,7 +21,7 @@ pub data Call : Type 0 where
   says-1 hears : Call
 
 unfoldable pub answer : Call → Session → Answer
-unfolding sendOf receiveOf blocks t5
+unfolding sendOf receiveOf blocks
 answer says-1 s = sendOf base (blocks t5 3) 3 0 1 1 7 s
 answer hears s = receiveOf base (blocks t5 3) 3 0 1 s
 
@@ -38,5 +38,5 @@ t5-story = refl
 
 -- T9 is finished when fresh: every role stands at an end, and nobody is awaited
 pub t9-finished : awaitedOf base (blocks t9 2) 2 (freshOf base (blocks t9 2) 2 .state) .set ≡ 0
-unfolding awaitedOf freshOf blocks t9 every sum
+unfolding awaitedOf freshOf blocks every sum
 t9-finished = refl
