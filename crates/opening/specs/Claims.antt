@@ -14,7 +14,9 @@ use Rattle.table.specs.Tree.{treeOf}
 use Rattle.parts.specs.Part.{Part, p-end, p-send, p-receive, p-loop, p-back, p-nil, p-arm}
 use Rattle.parts.specs.Merge.{merge}
 use native.Mathlib.Decide.{ℕ-discrete}
-use Rattle.opening.specs.Opening.{openOf, partOf, blockOf}
+use Rattle.parts.specs.Projection.{partOf}
+use Rattle.parts.specs.Layout.{blockOf}
+use Rattle.opening.specs.Opening.{openOf}
 use Rattle.opening.specs.Marked.{Marked, marked, t2, t5, t7}
 
 -- the claim: every marked table gets document 01's number and place, with room enough for any of them

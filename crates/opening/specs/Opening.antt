@@ -1,28 +1,16 @@
 -- Document 01, 'What comes back': opening tests rules 1 to 11 in order, and fills the room. Assumes nothing.
 use Prim.Native.Nat.{ℕ, zero, suc, _*_}
-use mathlib.Core.Bool.{Bool, true, false, cond}
+use mathlib.Core.Bool.{cond, not}
 use mathlib.Core.List.{List, [], _∷_, _++_}
-use mathlib.Core.Option.{Option, none, some}
 use lib.Dec.{ltb, eqb}
 use lib.ListN.{length, drop}
 use Rattle.table.specs.Limits.{Limits}
 use Rattle.table.specs.Numbers.{ACCEPTED, ROOM, NOPART}
 use Rattle.table.specs.Rules.{rules}
 use Rattle.table.specs.Check.{accepted, refused, refusedAt, sized, tested}
-use Rattle.table.specs.Tree.{Global, treeOf}
 use Rattle.table.specs.declared.Verdict.{Verdict}
-use Rattle.parts.specs.Part.{Part, p-end}
-use Rattle.parts.specs.Projection.{part}
-use Rattle.parts.specs.Layout.{block}
-
--- the part of role r in row 0. No payload stands in a table's tree, so any type of payloads gives the same part
-unfoldable pub partOf : List ℕ → ℕ → Option Part
-unfolding treeOf part
-partOf t r = let tree : Global ℕ = treeOf t in part r tree
-
-abbrev pub missing : Option Part → Bool
-missing none = true
-missing (some P) = false
+use Rattle.parts.specs.Projection.{partOf, present}
+use Rattle.parts.specs.Layout.{blockOf}
 
 -- the verdict on a table of so many roles, with a room of so many words: rules 1 to 11 in order
 unfoldable pub openOf : Limits → List ℕ → ℕ → ℕ → Verdict
@@ -30,13 +18,7 @@ unfolding partOf tested
 openOf lim t roles room =
     sized lim t roles (
     refused ROOM (ltb room (roles * length t)) (
-    tested lim t roles rules (refusedAt NOPART (λ r. missing (partOf t r)) roles accepted)))
-
--- a role's block: as long as the table
-unfoldable pub blockOf : List ℕ → Option Part → List ℕ
-unfolding block
-blockOf t none = []
-blockOf t (some P) = block (length t) P
+    tested lim t roles rules (refusedAt NOPART (λ r. not (present (partOf t r))) roles accepted)))
 
 -- the blocks of the roles below n, role 0 first
 unfoldable pub blocks : List ℕ → ℕ → List ℕ

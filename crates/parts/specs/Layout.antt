@@ -1,6 +1,7 @@
 -- Document 01, 'Parts: projection and merge': how a part is stored in rows of four words. Assumes nothing.
 use Prim.Native.Nat.{ℕ, zero, suc, _+_, _-_}
 use mathlib.Core.List.{List, [], _∷_, _++_}
+use mathlib.Core.Option.{Option, none, some}
 use lib.ListN.{getD, length, replicate}
 use Rattle.parts.specs.Part.{Part, p-end, p-send, p-receive, p-loop, p-back, PartArms, p-nil, p-arm}
 
@@ -46,3 +47,9 @@ unfoldable mutual
 unfoldable pub block : ℕ → Part → List ℕ
 unfolding layout
 block n P = let ws = layout 0 [] P in ws ++ replicate (n - length ws) 0
+
+-- a role's block over the table t: as long as the table
+unfoldable pub blockOf : List ℕ → Option Part → List ℕ
+unfolding block
+blockOf t none = []
+blockOf t (some P) = block (length t) P

@@ -1,9 +1,10 @@
 -- Document 01, 'Parts: projection and merge': the part of a role. Assumes nothing.
 use Prim.Native.Nat.{ℕ}
-use mathlib.Core.Bool.{cond, _||_}
+use mathlib.Core.Bool.{Bool, true, false, cond, _||_}
+use mathlib.Core.List.{List}
 use mathlib.Core.Option.{Option, none, some, bind}
 use lib.Dec.{eqb}
-use Rattle.table.specs.Tree.{Global, end, exchange, flight, loop, back, Arms, nil, arm}
+use Rattle.table.specs.Tree.{Global, end, exchange, flight, loop, back, Arms, nil, arm, treeOf}
 use Rattle.parts.specs.Part.{Part, p-end, p-send, p-receive, p-loop, p-back, PartArms, p-nil, p-arm, rising}
 use Rattle.parts.specs.Absent.{takesPart, leaves}
 use Rattle.parts.specs.Merge.{merge}
@@ -42,3 +43,13 @@ unfoldable mutual
   pub partArms : {A : Type 0} → ℕ → Arms A → Option PartArms
   partArms r nil = some p-nil
   partArms r (arm l G cs) = bind (part r G) (λ P. bind (partArms r cs) (λ ps. some (p-arm l P ps)))
+
+-- the part of role r in row 0. No payload stands in a table's tree, so any type of payloads gives the same part
+unfoldable pub partOf : List ℕ → ℕ → Option Part
+unfolding treeOf part
+partOf t r = let tree : Global ℕ = treeOf t in part r tree
+
+-- there is a part
+abbrev pub present : Option Part → Bool
+present none = false
+present (some P) = true
