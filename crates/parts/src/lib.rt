@@ -1,1 +1,3 @@
 // The part of each role: projection and merge.
+pub mod absent;
+pub mod merge;

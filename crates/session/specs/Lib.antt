@@ -1,3 +1,4 @@
+pub mod mirror
 pub mod Numbers
 pub mod Block
 pub mod Head

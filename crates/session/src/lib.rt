@@ -1,6 +1,9 @@
 // Sessions over opened tables: the state, and the answers of its calls.
 use table::Table;
 
+mod rows;
+mod tables;
+
 // Each role's head row, and for each ordered pair of roles (sender x ROLES + receiver) a queue of DEPTH slots, the oldest message in
 // the first.
 pub struct Session {

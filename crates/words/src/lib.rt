@@ -1,7 +1,7 @@
 // Rows of four 16-bit words in a lent slice: reads and writes that are right for any slice and any row.
 ghost use mathlib.Core.Path.{_≡_};
 ghost use Prim.Native.Nat.{_<_};
-ghost use lib.ListN.{getD};
+ghost use lib.ListN.{getD, set};
 ghost use Rattle.words.specs.Rows.{word, putRow};
 
 // The word at i, or 0 past the end.
@@ -9,6 +9,15 @@ pub fn peek(ws: &[u16], i: usize) -> u16
     ensures { λ r. ⌜ r ≡ getD (now (ws .entry)) i 0 ⌝ }
 {
     if i < ws.len() { ws[i] } else { 0 }
+}
+
+// The word at i is v; nothing is done past the end.
+pub fn poke(ws: &mut [u16], i: usize, v: u16)
+    ensures { λ _. ⌜ now (ws .exit) ≡ set (now (ws .entry)) i v ⌝ }
+{
+    if i < ws.len() {
+        ws[i] = v;
+    }
 }
 
 // The word k of a row, or 0 past the end. No sum is made that could wrap.

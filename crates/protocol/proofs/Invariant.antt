@@ -1,0 +1,9 @@
+pub mod View
+pub mod Covers
+pub mod Holds
+pub mod Absent
+pub mod Agree
+pub mod Complete
+pub mod Follows
+pub mod Queues
+pub mod Theorems

@@ -1,0 +1,4 @@
+pub mod Walk
+pub mod RowTests
+pub mod Good
+pub mod Mirrored

@@ -1,0 +1,18 @@
+-- `tables::is_peer` meets its contract. Assumes nothing.
+use borrow.Author.Needs.{needs}
+use Rattle.session.proofs.tables.is_peer.Statement.{statement}
+use Rattle.session.proofs.tables.is_peer.Tie as tie
+use Rattle.session.proofs.tables.is_peer.Reads as reads
+use Rattle.session.proofs.tables.is_peer.Lts as lts
+use Rattle.words.proofs.wide.Reads as wide-reads
+
+-- src/tables.rt:55:9
+wide-requires : tie.Need-wide-requires
+wide-requires c κs = search needs
+
+-- src/tables.rt:52:1
+returns : tie.Need-returns
+returns c = rw (c .wide .ensures .0)
+
+pub is-peer-spec : {M : Type 1} → statement M
+is-peer-spec = tie.close (tie.spec wide-requires returns)
