@@ -6,3 +6,4 @@ pub mod Rules
 pub mod Check
 pub mod Tree
 pub mod Kept
+pub mod mirror

@@ -51,6 +51,13 @@ unfolding lowest
 lowest-is p zero = nowhere (λ k l. absurd (omega arith))
 lowest-is p (suc n) = lowest-next p n (lowest p n) (lowest-is p n) (p n) refl
 
+lowest-bound : {p : ℕ → Bool} {n i : ℕ} → Lowest p n i → i ≤ n
+lowest-bound {n = n} (found {i = i} l e h) = omega arith
+lowest-bound {n = n} (nowhere h) = omega arith
+
+pub lowest-le : (p : ℕ → Bool) (n : ℕ) → lowest p n ≤ n
+lowest-le p n = lowest-bound (lowest-is p n)
+
 -- ---- every, any
 
 pub every-all : (p : ℕ → Bool) (n : ℕ) → ((k : ℕ) → k < n → p k ≡ true) → every p n ≡ true
@@ -106,3 +113,22 @@ pub sum-zero : (f : ℕ → ℕ) (n : ℕ) → ((k : ℕ) → k < n → f k ≡ 
 unfolding sum
 sum-zero f zero h = refl
 sum-zero f (suc n) h = rw (sum-zero f n (λ k l. h k (omega arith)), h n (omega arith))
+
+-- one value, and two, are at most the sum
+pub sum-at : (f : ℕ → ℕ) (n k : ℕ) → k < n → f k ≤ sum f n
+unfolding sum
+sum-at f zero k l = absurd (omega arith)
+sum-at f (suc n) k l =
+    ⊎-elim
+    (λ q. rw q (omega arith))
+    (λ q. let h = sum-at f n k q in omega arith)
+    (eq-or-lt-of-le (le-of-suc-le-suc l))
+
+pub sum-two : (f : ℕ → ℕ) (n j k : ℕ) → j < k → k < n → f j + f k ≤ sum f n
+unfolding sum
+sum-two f zero j k m l = absurd (omega arith)
+sum-two f (suc n) j k m l =
+    ⊎-elim
+    (λ q. let h = sum-at f n j (omega arith) in rw q (omega arith))
+    (λ q. let h = sum-two f n j k m q in omega arith)
+    (eq-or-lt-of-le (le-of-suc-le-suc l))

@@ -1,0 +1,10 @@
+pub mod Tests
+pub mod Rows
+pub mod Names
+pub mod Walk
+pub mod Chain
+pub mod Least
+pub mod Links
+pub mod Repeats
+pub mod Order
+pub mod Sizes

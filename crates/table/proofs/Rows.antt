@@ -1,0 +1,69 @@
+-- Laws of what a row's first word says of it. Assumes nothing.
+use Prim.Native.Nat.{ℕ, zero, suc, _+_, _<_}
+use mathlib.Core.Bool.{Bool, true, false, cond}
+use mathlib.Core.Logic.{_≢_}
+use mathlib.Core.Path.{_≡_, refl, sym}
+use lib.Dec.{ltb, eqb}
+use native.Mathlib.Omega.{arith}
+use borrow.Author.Tests.{lt-ltb, le-ltb, eq-eqb, ne-eqb}
+use Rattle.table.specs.Rows.{Row, End, Exchange, Arm, Loop, Back, Other, rowOf, isArm, isLoop}
+use Rattle.table.specs.Rules.{kindBroken, ofBack}
+use Rattle.table.specs.mirror.Names.{farLink}
+
+pub row-other : (k a b c : ℕ) → 4 < k → rowOf k a b c ≡ Other
+row-other zero a b c h = absurd (omega arith)
+row-other (suc zero) a b c h = absurd (omega arith)
+row-other (suc (suc zero)) a b c h = absurd (omega arith)
+row-other (suc (suc (suc zero))) a b c h = absurd (omega arith)
+row-other (suc (suc (suc (suc zero)))) a b c h = absurd (omega arith)
+row-other (suc (suc (suc (suc (suc k))))) a b c h = refl
+
+-- a row of no link: what is the same of an End, a Back and any other kind is so of it
+pub no-link : {A : Type 0} (f : Row → A) (z : A) → ((a b c : ℕ) → f (End a b c) ≡ z) → ((a b c : ℕ) → f (Back a b c) ≡ z) → f Other ≡ z
+    → (k a b c : ℕ) → k ≢ 1 → k ≢ 2 → k ≢ 3 → f (rowOf k a b c) ≡ z
+no-link f z e b o zero x y w h1 h2 h3 = e x y w
+no-link f z e b o (suc zero) x y w h1 h2 h3 = absurd (h1 refl)
+no-link f z e b o (suc (suc zero)) x y w h1 h2 h3 = absurd (h2 refl)
+no-link f z e b o (suc (suc (suc zero))) x y w h1 h2 h3 = absurd (h3 refl)
+no-link f z e b o (suc (suc (suc (suc zero)))) x y w h1 h2 h3 = b x y w
+no-link f z e b o (suc (suc (suc (suc (suc k))))) x y w h1 h2 h3 = o
+
+pub is-arm : (k a b c : ℕ) → isArm (rowOf k a b c) ≡ eqb k 2
+is-arm zero a b c = refl
+is-arm (suc zero) a b c = refl
+is-arm (suc (suc zero)) a b c = refl
+is-arm (suc (suc (suc zero))) a b c = refl
+is-arm (suc (suc (suc (suc zero)))) a b c = refl
+is-arm (suc (suc (suc (suc (suc k))))) a b c = sym (ne-eqb (suc (suc (suc (suc (suc k))))) 2 (omega arith))
+
+pub is-loop : (k a b c : ℕ) → isLoop (rowOf k a b c) ≡ eqb k 3
+is-loop zero a b c = refl
+is-loop (suc zero) a b c = refl
+is-loop (suc (suc zero)) a b c = refl
+is-loop (suc (suc (suc zero))) a b c = refl
+is-loop (suc (suc (suc (suc zero)))) a b c = refl
+is-loop (suc (suc (suc (suc (suc k))))) a b c = sym (ne-eqb (suc (suc (suc (suc (suc k))))) 3 (omega arith))
+
+pub is-kind : (k a b c : ℕ) → kindBroken (rowOf k a b c) ≡ ltb 4 k
+is-kind zero a b c = refl
+is-kind (suc zero) a b c = refl
+is-kind (suc (suc zero)) a b c = refl
+is-kind (suc (suc (suc zero))) a b c = refl
+is-kind (suc (suc (suc (suc zero)))) a b c = refl
+is-kind (suc (suc (suc (suc (suc k))))) a b c = sym (lt-ltb 4 (suc (suc (suc (suc (suc k))))) (omega arith))
+
+pub far-is : (k a b c : ℕ) → farLink (rowOf k a b c) ≡ cond (eqb k 2) c 0
+far-is zero a b c = refl
+far-is (suc zero) a b c = refl
+far-is (suc (suc zero)) a b c = refl
+far-is (suc (suc (suc zero))) a b c = refl
+far-is (suc (suc (suc (suc zero)))) a b c = refl
+far-is (suc (suc (suc (suc (suc k))))) a b c = rw (ne-eqb (suc (suc (suc (suc (suc k))))) 2 (omega arith))
+
+pub no-back : (p : ℕ → Bool) (k a b c : ℕ) → k ≢ 4 → ofBack p (rowOf k a b c) ≡ false
+no-back p zero a b c h = refl
+no-back p (suc zero) a b c h = refl
+no-back p (suc (suc zero)) a b c h = refl
+no-back p (suc (suc (suc zero))) a b c h = refl
+no-back p (suc (suc (suc (suc zero)))) a b c h = absurd (h refl)
+no-back p (suc (suc (suc (suc (suc k))))) a b c h = refl
