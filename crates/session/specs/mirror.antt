@@ -1,2 +1,4 @@
 pub mod Rows
 pub mod Tables
+pub mod State
+pub mod Turns

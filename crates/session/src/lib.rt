@@ -3,6 +3,8 @@ use table::Table;
 
 mod rows;
 mod tables;
+mod state;
+mod turns;
 
 // Each role's head row, and for each ordered pair of roles (sender x ROLES + receiver) a queue of DEPTH slots, the oldest message in
 // the first.

@@ -1,0 +1,26 @@
+-- `state::state_good` meets its contract. Assumes nothing.
+use Rattle.session.proofs.Queues.{state-read}
+use borrow.Author.Needs.{needs}
+use Rattle.session.proofs.state.state_good.Statement.{statement}
+use Rattle.session.proofs.state.state_good.Tie as tie
+use Rattle.session.proofs.state.state_good.Reads as reads
+use Rattle.session.proofs.state.state_good.Lts as lts
+use Rattle.session.proofs.state.heads_good.Reads as heads-good-reads
+use Rattle.session.proofs.state.queues_good.Reads as queues-good-reads
+
+-- src/state.rt:138:9
+heads-good-requires : tie.Need-heads-good-requires
+heads-good-requires c κs = search needs
+
+-- src/state.rt:139:16
+queues-good-requires : tie.Need-queues-good-requires
+queues-good-requires c κs = search needs
+
+-- src/state.rt:134:1
+returns : tie.Need-returns
+returns c = 
+    rw (c .before .heads-good .ensures, c .queues-good .ensures)
+    (state-read (c .before .before .before .args .tables .now) (c .before .before .before .args .roles) (c .before .before .before .args .rows) (c .before .before .before .args .heads .now) (c .before .before .before .args .counts .now) (c .before .before .before .args .labels .now) (c .before .before .before .args .payloads .now) (c .before .before .before .pre .0))
+
+pub state-good-spec : {M : Type 1} → statement M
+state-good-spec = tie.close (tie.spec heads-good-requires queues-good-requires returns)
