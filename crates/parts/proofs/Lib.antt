@@ -1,7 +1,4 @@
-pub mod Sets
-pub mod Reach
-pub mod MergeSteps
-pub mod MergeRising
-pub mod MergeSizes
-pub mod MergeWords
-pub mod MergeCopy
+pub mod Lengths
+pub mod Rising
+pub mod Sizes
+pub mod Words

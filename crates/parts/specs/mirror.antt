@@ -1,3 +1,3 @@
 pub mod Codes
-pub mod Merging
-pub mod Reach
+pub mod Rising
+pub mod Stands

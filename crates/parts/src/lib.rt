@@ -1,3 +1,1 @@
-// The part of each role: projection and merge.
-pub mod absent;
-pub mod merge;
+// The parts of the roles: definitions and laws. The code stands in reach, merge, layout and projection.

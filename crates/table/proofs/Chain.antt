@@ -1,20 +1,19 @@
 -- Laws of the walk along one chain of arms: where it stops, and what it then answers. Assumes nothing.
 use Prim.Native.Nat.{ℕ, zero, suc, _+_, _≤_, _<_}
-use mathlib.Core.Bool.{Bool, true, false, cond, _||_, or-true, true≢false}
+use mathlib.Core.Bool.{Bool, true, false, _||_, or-true, true≢false}
 use mathlib.Core.List.{List}
 use mathlib.Core.Logic.{_≢_}
 use mathlib.Core.Path.{_≡_, refl, sym, _∙_}
-use lib.Dec.{ltb, leb, eqb}
+use lib.Dec.{leb, eqb}
 use native.Mathlib.Numerals.{add-one}
 use native.Mathlib.Decide.{decLt}
 use native.Mathlib.Omega.{arith}
-use borrow.Author.Tests.{lt-ltb, le-ltb, eq-eqb, ne-eqb, eqb-true, eqb-false, leb-false}
+use borrow.Author.Tests.{lt-ltb, le-ltb, eqb-true, leb-false}
 use Rattle.words.specs.Rows.{rowsOf, word}
-use Rattle.words.specs.Below.{lowest, any}
 use Rattle.words.proofs.Below.{lowest-none, lowest-at, any-none, any-at}
 use Rattle.table.specs.Rows.{rowOf}
+use Rattle.table.specs.mirror.Chain.{nth, stops, repeatedOf, chainOf}
 use Rattle.table.proofs.Tests.{neither}
-use Rattle.table.specs.mirror.Chain.{nth, repeats, stops, repeatedOf, chainOf}
 
 -- the test of the walk: an arm, and fewer passed than there are rows
 pub still : (rows row i : ℕ) → (eqb row 0 || leb rows i) ≡ false → i < rows

@@ -1,12 +1,11 @@
 -- The least over all rows of what a rule finds at each is the lowest row that breaks it. Assumes nothing.
 use Prim.Native.Nat.{ℕ, zero, suc, _≤_, _<_}
 use mathlib.Core.Bool.{Bool, true, false, cond, true≢false}
-use mathlib.Core.Logic.{_⊎_, inl, inr, ⊎-elim}
+use mathlib.Core.Logic.{⊎-elim}
 use mathlib.Core.Path.{_≡_, refl, sym, _∙_}
 use lib.Dec.{ltb}
 use native.Mathlib.Nat.{eq-or-lt-of-le, le-of-suc-le-suc}
 use native.Mathlib.Omega.{arith}
-use borrow.Author.Tests.{lt-ltb, le-ltb}
 use Rattle.words.specs.Below.{lowest}
 use Rattle.words.proofs.Below.{Lowest, found, nowhere, lowest-is}
 use Rattle.table.specs.mirror.Blame.{least}

@@ -8,3 +8,8 @@ pub mod Links
 pub mod Repeats
 pub mod Order
 pub mod Sizes
+pub mod Accepted
+pub mod Grown
+pub mod Trees
+pub mod Size
+pub mod Claims

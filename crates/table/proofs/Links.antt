@@ -1,20 +1,22 @@
 -- What rules 6 and 7 say of a table that keeps them: links go to higher rows inside it, and each row but 0 has one row that names it.
 -- Assumes nothing.
-use Prim.Native.Nat.{ℕ, zero, suc, _+_, _≤_, _<_}
-use mathlib.Core.Bool.{Bool, true, false, not, _&&_, _||_, true≢false}
-use mathlib.Core.List.{List, [], _∷_}
-use mathlib.Core.Logic.{_≢_, _⊎_, inl, inr}
-use mathlib.Core.Path.{_≡_, refl, sym, _∙_, ap}
+use Prim.Native.Nat.{ℕ, zero, suc, _+_, _<_}
+use mathlib.Core.Bool.{Bool, true, false, not, _&&_, _||_}
+use mathlib.Core.List.{List}
+use mathlib.Core.Logic.{_⊎_, inl, inr, ⊎-elim}
+use mathlib.Core.Path.{_≡_, refl}
 use lib.Dec.{ltb, eqb}
 use native.Mathlib.Omega.{arith}
 use borrow.Author.Tests.{lt-ltb, le-ltb, eq-eqb, ne-eqb, ltb-true, eqb-true, eqb-false, not-true, not-false}
-use Rattle.words.specs.Rows.{rowsOf, word}
-use Rattle.words.specs.Below.{lowest, sum, one}
+use Rattle.words.specs.Rows.{rowsOf}
+use Rattle.words.specs.Below.{one}
 use Rattle.words.proofs.Below.{Lowest, found, nowhere, lowest-is, lowest-at, sum-zero, sum-two}
-use Rattle.table.specs.Rows.{Row, End, Exchange, Arm, Loop, Back, Other, rowOf, row, isArm, links, next}
+use Rattle.table.specs.Rows.{Row, End, Exchange, Arm, Loop, Back, Other, row, isArm, links}
 use Rattle.table.specs.Above.{times, timesNamed, namer}
 use Rattle.table.specs.Rules.{toArm, toOther, linkBroken, namedBroken}
+use Rattle.table.specs.mirror.Names.{nearLink, farLink}
 use Rattle.table.proofs.Tests.{both, neither}
+use Rattle.table.proofs.Names.{times-links}
 
 -- a link from row i to row j: upwards, inside, to an Arm or to no Arm
 pub record Link (t : List ℕ) (arm : Bool) (i j : ℕ) : Type 0 where
@@ -63,8 +65,8 @@ pub namer-is : (t : List ℕ) (i p : ℕ) → timesNamed t i ≡ 1 → p < rowsO
 namer-is t i p e l h =
     lowest-at _ (rowsOf t) p l
     (λ k m.
-        let s = sum-two (λ q. times i (links (row t q))) (rowsOf t) k p m l in
-        le-ltb 0 (times i (links (row t k))) (omega arith))
+    let s = sum-two (λ q. times i (links (row t q))) (rowsOf t) k p m l in
+    le-ltb 0 (times i (links (row t k))) (omega arith))
     (lt-ltb 0 (times i (links (row t p))) h)
 
 names : (t : List ℕ) (i : ℕ) {p : ℕ} → timesNamed t i ≡ 1 → Lowest (λ q. ltb 0 (times i (links (row t q)))) (rowsOf t) p
@@ -72,8 +74,39 @@ names : (t : List ℕ) (i : ℕ) {p : ℕ} → timesNamed t i ≡ 1 → Lowest (
 names t i e (found {i = p} l h b) = (l, ltb-true 0 (times i (links (row t p))) h)
 names t i e (nowhere h) =
     let z = sum-zero (λ q. times i (links (row t q))) (rowsOf t)
-        (λ k l. let m = borrow.Author.Tests.ltb-false 0 (times i (links (row t k))) (h k l) in omega arith) in
+    (λ k l. let m = borrow.Author.Tests.ltb-false 0 (times i (links (row t k))) (h k l) in omega arith) in
     absurd (omega arith)
 
 pub namer-names : (t : List ℕ) (i : ℕ) → timesNamed t i ≡ 1 → (namer t i < rowsOf t) × (0 < times i (links (row t (namer t i))))
 namer-names t i e = names t i e (lowest-is _ (rowsOf t))
+
+-- a row's link names the row that it leads to
+pub near-named : (t : List ℕ) (i j : ℕ) → 0 < j → nearLink (row t i) ≡ j → 0 < times j (links (row t i))
+near-named t i j h e = rw (times-links j h (row t i), e, eq-eqb j j refl) (omega arith)
+
+pub far-named : (t : List ℕ) (i j : ℕ) → 0 < j → farLink (row t i) ≡ j → 0 < times j (links (row t i))
+far-named t i j h e = rw (times-links j h (row t i), e, eq-eqb j j refl) (omega arith)
+
+-- and only such a row is named
+pub named-by : (i : ℕ) (r : Row) → 0 < i → 0 < times i (links r) → (i ≡ nearLink r) ⊎ (i ≡ farLink r)
+named-by i r h l = go (eqb i (nearLink r)) refl (eqb i (farLink r)) refl (rw (times-links i h r) at l)
+  where
+    go : (a : Bool) → eqb i (nearLink r) ≡ a → (b : Bool) → eqb i (farLink r) ≡ b → 0 < one a + one b → (i ≡ nearLink r) ⊎ (i ≡ farLink r)
+    go true e b f g = inl (eqb-true i (nearLink r) e)
+    go false e true f g = inr (eqb-true i (farLink r) f)
+    go false e false f g = absurd (omega arith)
+
+-- a link that rule 6 allows goes up
+pub goes-up : (t : List ℕ) (p i : ℕ) (r : Row) → 0 < i → linkBroken t p r ≡ false → (i ≡ nearLink r) ⊎ (i ≡ farLink r) → p < i
+goes-up t p i (End a b c) h e (inl q) = absurd (omega arith)
+goes-up t p i (End a b c) h e (inr q) = absurd (omega arith)
+goes-up t p i (Exchange s r f) h e (inl q) = rw q (exchange-link t p s r f e .up)
+goes-up t p i (Exchange s r f) h e (inr q) = absurd (omega arith)
+goes-up t p i (Arm l c n) h e (inl q) = rw q (arm-link t p l c n e .1 .up)
+goes-up t p i (Arm l c n) h e (inr q) = ⊎-elim (λ z. absurd (omega arith)) (λ m. rw q (m .up)) (arm-link t p l c n e .2)
+goes-up t p i (Loop b x y) h e (inl q) = rw q (loop-link t p b x y e .up)
+goes-up t p i (Loop b x y) h e (inr q) = absurd (omega arith)
+goes-up t p i (Back d x y) h e (inl q) = absurd (omega arith)
+goes-up t p i (Back d x y) h e (inr q) = absurd (omega arith)
+goes-up t p i Other h e (inl q) = absurd (omega arith)
+goes-up t p i Other h e (inr q) = absurd (omega arith)

@@ -1,16 +1,15 @@
 -- Rules 4 to 10 in order: what one turn of the loop over them finds, and what is then known. Assumes nothing.
 use Prim.Native.Nat.{ℕ, zero, suc, _+_, _≤_, _<_}
-use mathlib.Core.Bool.{Bool, true, false, cond, true≢false}
+use mathlib.Core.Bool.{Bool, false}
 use mathlib.Core.List.{List, [], _∷_}
-use mathlib.Core.Path.{_≡_, refl, sym, _∙_, ap}
-use lib.Dec.{ltb}
+use mathlib.Core.Path.{_≡_, refl, sym, _∙_}
 use native.Mathlib.Omega.{arith}
 use borrow.Author.Tests.{lt-ltb, le-ltb}
 use Rattle.words.specs.Rows.{rowsOf}
 use Rattle.words.specs.Below.{lowest}
-use Rattle.words.proofs.Below.{Lowest, found, nowhere, lowest-is, split}
+use Rattle.words.proofs.Below.{Lowest, found, nowhere, lowest-is}
 use Rattle.table.specs.Limits.{base}
-use Rattle.table.specs.Rules.{Rule, kind, field, link, named, twice, unbound, unguarded, rules, number, breaks}
+use Rattle.table.specs.Rules.{Rule, kind, field, link, named, twice, unbound, unguarded, rules, breaks}
 use Rattle.table.specs.Check.{says, accepted, refusedAt, tested}
 use Rattle.table.specs.mirror.Blame.{ruleOf, blames, least}
 use Rattle.table.proofs.Least.{own}
@@ -104,7 +103,8 @@ module _ (t : List ℕ) (roles n at : ℕ) (high : n ≤ 10) (turn : Turn t role
             (λ q. turn .kept k a q)
             (native.Mathlib.Nat.eq-or-lt-of-le (let c : k ≤ n = omega arith in c));
         rest =
-            sym (from-step t roles n (turn .low) high ∙ rw (at-lowest, le-ltb at (rowsOf t) l)) ∙ turn .rest }
+            sym (from-step t roles n (turn .low) high ∙ rw (at-lowest, le-ltb at (rowsOf t) l)) ∙ turn .rest;
+      }
 
 pub turn-end : (t : List ℕ) (roles n : ℕ) → 10 < n → Turn t roles n → accepted ≡ tested base t roles rules accepted
 unfolding tested

@@ -1,44 +1,28 @@
 -- Where rules 6 and 7 are kept, the first repeat along each Exchange's chain, least over all rows, is the lowest arm that repeats an earlier
 -- label of its chain. Assumes nothing.
-use Prim.Native.Nat.{ℕ, zero, suc, _+_, _-_, _≤_, _<_}
-use mathlib.Core.Bool.{Bool, true, false, cond, not, _&&_, _||_, true≢false, or-true}
-use mathlib.Core.List.{List, [], _∷_}
+use Prim.Native.Nat.{ℕ, zero, suc, _-_, _≤_, _<_}
+use mathlib.Core.Bool.{Bool, true, false, cond, true≢false}
+use mathlib.Core.List.{List, _∷_}
 use mathlib.Core.Logic.{_≢_, _⊎_, inl, inr, ⊎-elim}
-use mathlib.Core.Path.{_≡_, refl, sym, _∙_, ap, ap₂, subst}
+use mathlib.Core.Path.{_≡_, refl, sym, _∙_, ap}
 use lib.Dec.{ltb, eqb}
 use native.Mathlib.Nat.{eq-or-lt-of-le, le-of-suc-le-suc}
 use native.Mathlib.Omega.{arith}
-use borrow.Author.Tests.{lt-ltb, le-ltb, eq-eqb, ne-eqb, ltb-true, eqb-true, eqb-false}
+use borrow.Author.Tests.{lt-ltb, le-ltb, eq-eqb, ne-eqb, eqb-false}
 use Rattle.words.specs.Rows.{rowsOf, word}
-use Rattle.words.specs.Below.{lowest, any, one}
+use Rattle.words.specs.Below.{lowest, any}
 use Rattle.words.proofs.Below.{Lowest, found, nowhere, lowest-is, lowest-at}
-use Rattle.table.specs.Rows.{Row, End, Exchange, Arm, Loop, Back, Other, rowOf, row, isArm, label, links, next}
-use Rattle.table.specs.Above.{times, timesNamed, namer, over, above, armBefore, chainOver, earlierArms, hasLabel}
+use Rattle.table.specs.Rows.{Row, End, Exchange, Arm, Loop, Back, Other, row, isArm}
+use Rattle.table.specs.Above.{namer, over, chainOver, hasLabel}
 use Rattle.table.specs.Rules.{linkBroken, namedBroken, ofArm, twiceBroken}
 use Rattle.table.specs.mirror.Names.{nearLink, farLink}
 use Rattle.table.specs.mirror.Chain.{nth, repeats, stops, repeatedOf, chainOf}
 use Rattle.table.specs.mirror.Blame.{least}
-use Rattle.table.proofs.Tests.{neither, either, or-comm}
-use Rattle.table.proofs.Names.{times-links}
+use Rattle.table.proofs.Tests.{neither, or-comm}
+use Rattle.table.proofs.Rows.{arm-row, arm-third}
 use Rattle.table.proofs.Walk.{over-more}
-use Rattle.table.proofs.Links.{Link, exchange-link, arm-link, loop-link, named-once, namer-is, namer-names}
+use Rattle.table.proofs.Links.{Link, exchange-link, arm-link, loop-link, named-once, namer-is, namer-names, near-named, far-named, named-by}
 use Rattle.table.proofs.Least.{Sound, none, some, Finds, finds, least-lowest}
-
--- an Arm, by its words
-arm-words : (k a b c : ℕ) → isArm (rowOf k a b c) ≡ true → rowOf k a b c ≡ Arm a b c
-arm-words zero a b c e = absurd (true≢false (sym e))
-arm-words (suc zero) a b c e = absurd (true≢false (sym e))
-arm-words (suc (suc zero)) a b c e = refl
-arm-words (suc (suc (suc zero))) a b c e = absurd (true≢false (sym e))
-arm-words (suc (suc (suc (suc zero)))) a b c e = absurd (true≢false (sym e))
-arm-words (suc (suc (suc (suc (suc k))))) a b c e = absurd (true≢false (sym e))
-
--- its third word is its next arm
-arm-third : (k a b c : ℕ) {l m n : ℕ} → rowOf k a b c ≡ Arm l m n → c ≡ n
-arm-third k a b c e = ap farLink (sym (arm-words k a b c (ap isArm e))) ∙ ap farLink e
-
-pub arm-row : (t : List ℕ) (x : ℕ) → isArm (row t x) ≡ true → row t x ≡ Arm (word t x 1) (word t x 2) (word t x 3)
-arm-row t x e = arm-words (word t x 0) (word t x 1) (word t x 2) (word t x 3) e
 
 of-arm : (p : ℕ → Bool) (r : Row) → ofArm p r ≡ true → isArm r ≡ true
 of-arm p (End a b c) e = e
@@ -47,9 +31,6 @@ of-arm p (Arm l c n) e = refl
 of-arm p (Loop b x y) e = e
 of-arm p (Back d x y) e = e
 of-arm p Other e = e
-
-one-same : (i : ℕ) → one (eqb i i) ≡ 1
-one-same i = rw (eq-eqb i i refl)
 
 -- the first arm of an Exchange, and that the chain goes on to its k-th arm
 pub record Chain (t : List ℕ) (e f k : ℕ) : Type 0 where
@@ -101,11 +82,11 @@ module _ (t : List ℕ) (link : (i : ℕ) → i < rowsOf t → linkBroken t i (r
 
   -- who names the arms
   names-first : (e f : ℕ) → Chain t e f 0 → namer t f ≡ e
-  unfolding nth times
+  unfolding nth
   names-first e f c =
       let (m, l) = reached e f 0 c in
       let o = named-once t f (m .up) (named f (m .inside)) in
-      namer-is t f e o (c .inside) (rw (c .first) (omega (arith, one-same f)))
+      namer-is t f e o (c .inside) (near-named t e f (m .up) (ap nearLink (c .first)))
 
   names-next : (e f k : ℕ) → Chain t e f (suc k) → namer t (nth t f (suc k)) ≡ nth t f k
   unfolding nth
@@ -114,9 +95,8 @@ module _ (t : List ℕ) (link : (i : ℕ) → i < rowsOf t → linkBroken t i (r
       let (n, _) = reached e f (suc k) c in
       let x = nth t f k in
       let y = word t x 3 in
-      let r = arm-row t x (m .is) in
       let o = named-once t y (n .up) (named y (n .inside)) in
-      namer-is t y x o (m .inside) (rw (times-links y (n .up) (row t x), r) (omega (arith, one-same y)))
+      namer-is t y x o (m .inside) (far-named t x y (n .up) (ap farLink (arm-row t x (m .is))))
 
   -- one of the arms before the k-th has the label l; n rows are looked at, going up
   earlier-has : (e f k n l : ℕ) → Chain t e f k → k < n
@@ -131,7 +111,7 @@ module _ (t : List ℕ) (link : (i : ℕ) → i < rowsOf t → linkBroken t i (r
       let x = nth t f k in
       let y = word t x 3 in
       let o : over n t y ≡ x ∷ over (n - 1) t x =
-          over-more t n y (omega arith) (u .up) ∙ ap (λ p. p ∷ over (n - 1) t p) (names-next e f k c) in
+      over-more t n y (omega arith) (u .up) ∙ ap (λ p. p ∷ over (n - 1) t p) (names-next e f k c) in
       let r = arm-row t x (m .is) in
       rw (o, r, eq-eqb y y refl, r, earlier-has e f k (n - 1) l (shorter k (omega arith) c) (omega arith))
       (or-comm (eqb (word t x 1) l) (any (λ j. eqb (word t (nth t f j) 1) l) k))
@@ -162,7 +142,8 @@ module _ (t : List ℕ) (link : (i : ℕ) → i < rowsOf t → linkBroken t i (r
                 ⊎-elim
                 (λ x. rw x here)
                 (λ x. eqb-false (nth t f j) 0 (neither (eqb (nth t f j) 0) (repeats t f j) (before j x) .0))
-                (eq-or-lt-of-le k) } in
+                (eq-or-lt-of-le k);
+          } in
           some (reached e f i c .0 .inside) (twice-at e f i c ∙ (rw z at h))
 
       go : {i : ℕ} → Lowest (stops t f) (rowsOf t) i
@@ -202,47 +183,37 @@ module _ (t : List ℕ) (link : (i : ℕ) → i < rowsOf t → linkBroken t i (r
             ⊎-elim
             (λ y z. h (sym w ∙ (ap (λ v. word t v 3) (sym q) ∙ (ap (nth t f) (sym y) ∙ z))))
             (λ y. c .alive j (omega arith))
-            (eq-or-lt-of-le l) })
+            (eq-or-lt-of-le l);
+      })
       (rw q w)
 
-  -- the row that names an Arm, by its kind
-  by-namer : (i p : ℕ) → p < rowsOf t → isArm (row t i) ≡ true → (r : Row) → row t p ≡ r → 0 < times i (links r)
-      → (p < i → isArm (row t p) ≡ true → InChain t p) → i ≢ 0 → InChain t i
-  unfolding times nth
-  by-namer i p l a (End x y z) e h up nz = absurd (omega arith)
-  by-namer i p l a (Exchange s r f) e h up nz = at-first (eqb i f) refl
-    where
-      at-first : (b : Bool) → eqb i f ≡ b → InChain t i
-      at-first true q =
-          let w = eqb-true i f q in
-          in-chain p f 0
-          (record { inside = l; sender = s; receiver = r; first = e; alive = λ j m. let z : j ≡ 0 = omega arith in rw z (λ y. nz (w ∙ y)) })
-          (sym w)
-      at-first false q = let g : 0 < one false + 0 = rw q at h in absurd (omega arith)
-  by-namer i p l a (Arm x c n) e h up nz =
-      let i0 : 0 < i = omega arith in
-      let k = arm-link t p x c n (rw e at (link p l)) in
-      by-arm (k .1) (k .2) (eqb i c) refl (eqb i n) refl (rw (times-links i i0 (Arm x c n)) at h)
-    where
-      by-arm : Link t false p c → (n ≡ 0) ⊎ Link t true p n → (b : Bool) → eqb i c ≡ b → (d : Bool) → eqb i n ≡ d → 0 < one b + one d → InChain t i
-      by-arm kc kn true q d w g = absurd (true≢false (sym a ∙ (ap (λ v. isArm (row t v)) (eqb-true i c q) ∙ kc .is)))
-      by-arm kc kn false q true w g =
-          let v = eqb-true i n w in
-          ⊎-elim
-          (λ z. absurd (nz (v ∙ z)))
-          (λ m.
-              let u = m .up in
-              extended i p (arm-third (word t p 0) (word t p 1) (word t p 2) (word t p 3) e ∙ sym v) nz (up (omega arith) (rw e)))
-          kn
-      by-arm kc kn false q false w g = absurd (omega arith)
-  by-namer i p l a (Loop b x y) e h up nz = at-body (eqb i b) refl
-    where
-      at-body : (d : Bool) → eqb i b ≡ d → InChain t i
-      at-body true q =
-          absurd (true≢false (sym a ∙ (ap (λ v. isArm (row t v)) (eqb-true i b q) ∙ loop-link t p b x y (rw e at (link p l)) .is)))
-      at-body false q = let g : 0 < one false + 0 = rw q at h in absurd (omega arith)
-  by-namer i p l a (Back d x y) e h up nz = absurd (omega arith)
-  by-namer i p l a Other e h up nz = absurd (omega arith)
+  -- the row that names an Arm, by its kind: an Exchange whose first arm it is, or the arm before it
+  by-namer : (i p : ℕ) → p < rowsOf t → isArm (row t i) ≡ true → (r : Row) → row t p ≡ r → (i ≡ nearLink r) ⊎ (i ≡ farLink r)
+      → (p < i → isArm (row t p) ≡ true → InChain t p) → 0 < i → InChain t i
+  unfolding nth
+  by-namer i p l a (End x y z) e (inl q) up h = absurd (omega arith)
+  by-namer i p l a (End x y z) e (inr q) up h = absurd (omega arith)
+  by-namer i p l a (Exchange s r f) e (inl q) up h =
+      in-chain p f 0
+      (record { inside = l; sender = s; receiver = r; first = e; alive = λ j m. let z : j ≡ 0 = omega arith in rw z (omega arith) })
+      (sym q)
+  by-namer i p l a (Exchange s r f) e (inr q) up h = absurd (omega arith)
+  by-namer i p l a (Arm x c n) e (inl q) up h =
+      absurd (true≢false (sym a ∙ (ap (λ v. isArm (row t v)) q ∙ arm-link t p x c n (rw e at (link p l)) .1 .is)))
+  by-namer i p l a (Arm x c n) e (inr q) up h =
+      ⊎-elim
+      (λ z. absurd (omega arith))
+      (λ m.
+      let u = m .up in
+      extended i p (arm-third (word t p 0) (word t p 1) (word t p 2) (word t p 3) e ∙ sym q) (omega arith) (up (omega arith) (rw e)))
+      (arm-link t p x c n (rw e at (link p l)) .2)
+  by-namer i p l a (Loop b x y) e (inl q) up h =
+      absurd (true≢false (sym a ∙ (ap (λ v. isArm (row t v)) q ∙ loop-link t p b x y (rw e at (link p l)) .is)))
+  by-namer i p l a (Loop b x y) e (inr q) up h = absurd (omega arith)
+  by-namer i p l a (Back d x y) e (inl q) up h = absurd (omega arith)
+  by-namer i p l a (Back d x y) e (inr q) up h = absurd (omega arith)
+  by-namer i p l a Other e (inl q) up h = absurd (omega arith)
+  by-namer i p l a Other e (inr q) up h = absurd (omega arith)
 
   -- every Arm stands in the chain of an Exchange; m bounds its row
   in-some-chain : (m i : ℕ) → i < m → i < rowsOf t → isArm (row t i) ≡ true → InChain t i
@@ -251,8 +222,7 @@ module _ (t : List ℕ) (link : (i : ℕ) → i < rowsOf t → linkBroken t i (r
       let k = arm-link t i (word t i 1) (word t i 2) (word t i 3) (rw (arm-row t i a) at (link i l)) in
       let (pl, pn) = namer-names t i (named-once t i (k .0) (named i l)) in
       let p = namer t i in
-      let i0 = k .0 in
-      by-namer i p pl a (row t p) refl pn (λ q b. in-some-chain m p (omega arith) pl b) (omega arith)
+      by-namer i p pl a (row t p) refl (named-by i (row t p) (k .0) pn) (λ q b. in-some-chain m p (omega arith) pl b) (k .0)
 
   row-sound : (e : ℕ) → e < rowsOf t → (r : Row) → row t e ≡ r → Sound (λ i. twiceBroken t i (row t i)) (rowsOf t) (chainOf t r)
   row-sound e l (End a b c) q = none

@@ -1,12 +1,14 @@
 -- Laws of what a row's first word says of it. Assumes nothing.
-use Prim.Native.Nat.{ℕ, zero, suc, _+_, _<_}
-use mathlib.Core.Bool.{Bool, true, false, cond}
+use Prim.Native.Nat.{ℕ, zero, suc, _<_}
+use mathlib.Core.Bool.{Bool, true, false, cond, true≢false}
 use mathlib.Core.Logic.{_≢_}
-use mathlib.Core.Path.{_≡_, refl, sym}
+use mathlib.Core.List.{List}
+use mathlib.Core.Path.{_≡_, refl, sym, _∙_, ap}
 use lib.Dec.{ltb, eqb}
 use native.Mathlib.Omega.{arith}
-use borrow.Author.Tests.{lt-ltb, le-ltb, eq-eqb, ne-eqb}
-use Rattle.table.specs.Rows.{Row, End, Exchange, Arm, Loop, Back, Other, rowOf, isArm, isLoop}
+use borrow.Author.Tests.{lt-ltb, ne-eqb}
+use Rattle.words.specs.Rows.{word}
+use Rattle.table.specs.Rows.{Row, End, Arm, Back, Other, rowOf, row, isArm, isLoop}
 use Rattle.table.specs.Rules.{kindBroken, ofBack}
 use Rattle.table.specs.mirror.Names.{farLink}
 
@@ -67,3 +69,19 @@ no-back p (suc (suc zero)) a b c h = refl
 no-back p (suc (suc (suc zero))) a b c h = refl
 no-back p (suc (suc (suc (suc zero)))) a b c h = absurd (h refl)
 no-back p (suc (suc (suc (suc (suc k))))) a b c h = refl
+
+-- an Arm, by its words
+arm-words : (k a b c : ℕ) → isArm (rowOf k a b c) ≡ true → rowOf k a b c ≡ Arm a b c
+arm-words zero a b c e = absurd (true≢false (sym e))
+arm-words (suc zero) a b c e = absurd (true≢false (sym e))
+arm-words (suc (suc zero)) a b c e = refl
+arm-words (suc (suc (suc zero))) a b c e = absurd (true≢false (sym e))
+arm-words (suc (suc (suc (suc zero)))) a b c e = absurd (true≢false (sym e))
+arm-words (suc (suc (suc (suc (suc k))))) a b c e = absurd (true≢false (sym e))
+
+-- its third word is its next arm
+pub arm-third : (k a b c : ℕ) {l m n : ℕ} → rowOf k a b c ≡ Arm l m n → c ≡ n
+arm-third k a b c e = ap farLink (sym (arm-words k a b c (ap isArm e))) ∙ ap farLink e
+
+pub arm-row : (t : List ℕ) (x : ℕ) → isArm (row t x) ≡ true → row t x ≡ Arm (word t x 1) (word t x 2) (word t x 3)
+arm-row t x e = arm-words (word t x 0) (word t x 1) (word t x 2) (word t x 3) e

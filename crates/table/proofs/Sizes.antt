@@ -1,9 +1,9 @@
 -- Rules 1 and 2: what is known of a table that they accept, and that a refusal by them does not look at the rules after them. Assumes nothing.
-use Prim.Native.Nat.{ℕ, zero, suc, _*_, _%_, _≤_, _<_}
-use mathlib.Core.Bool.{Bool, true, false, cond, not, _||_}
+use Prim.Native.Nat.{ℕ, _*_, _%_, _≤_, _<_}
+use mathlib.Core.Bool.{Bool, true, false, not, _||_}
 use mathlib.Core.List.{List}
 use mathlib.Core.Logic.{_≢_}
-use mathlib.Core.Path.{_≡_, refl, sym, _∙_}
+use mathlib.Core.Path.{_≡_, refl, _∙_}
 use lib.Dec.{ltb, eqb}
 use lib.ListN.{length}
 use native.Mathlib.Omega.{arith}
@@ -15,6 +15,14 @@ use Rattle.table.specs.Rules.{wordsBroken, rolesBroken}
 use Rattle.table.specs.Check.{says, accepted, refused, sized}
 use Rattle.table.specs.declared.Verdict.{Verdict}
 use Rattle.table.proofs.Tests.{neither}
+
+-- what each of the two tests answers
+pub says-words : (lim : Limits) (t : List ℕ) (roles : ℕ) (rest : Verdict) → wordsBroken lim t ≡ true → says WORDS 0 ≡ sized lim t roles rest
+says-words lim t roles rest e = rw e
+
+pub says-roles : (lim : Limits) (t : List ℕ) (roles : ℕ) (rest : Verdict) → wordsBroken lim t ≡ false → rolesBroken lim roles ≡ true
+    → says ROLES 0 ≡ sized lim t roles rest
+says-roles lim t roles rest e f = rw (e, f)
 
 -- rules 1 and 2 are kept
 pub record Sized (lim : Limits) (t : List ℕ) (roles : ℕ) : Type 0 where
@@ -42,7 +50,8 @@ measured lim t roles s =
       whole = omega arith;
       few = omega arith;
       least = ltb-false roles 2 d;
-      most = ltb-false (lim .roles) roles e }
+      most = ltb-false (lim .roles) roles e;
+    }
 
 kept : (a b : Bool) → refused WORDS a (refused ROLES b accepted) .number ≡ 0 → (a ≡ false) × (b ≡ false)
 kept true b e = absurd (omega arith)

@@ -2,17 +2,15 @@
 use Prim.Native.Nat.{ℕ, zero, suc, _+_, _-_, _≤_, _<_}
 use mathlib.Core.Bool.{Bool, true, false, cond, not, _&&_, true≢false}
 use mathlib.Core.List.{List, [], _∷_}
-use mathlib.Core.Path.{_≡_, refl, sym, _∙_, ap}
-use lib.Dec.{ltb, leb, eqb}
-use lib.ListN.{getD}
+use mathlib.Core.Path.{_≡_, refl, sym, _∙_}
+use lib.Dec.{ltb, eqb}
 use native.Mathlib.Omega.{arith}
-use borrow.Author.Tests.{lt-ltb, le-ltb, eq-eqb, ne-eqb, lt-leb, le-leb, ltb-true, eqb-false}
+use borrow.Author.Tests.{lt-ltb, le-ltb, ne-eqb}
 use Rattle.words.specs.Rows.{rowsOf}
 use Rattle.words.specs.Below.{one}
-use Rattle.table.specs.Rows.{Row, row, isLoop}
+use Rattle.table.specs.Rows.{row, isLoop}
 use Rattle.table.specs.Above.{namer, over, above, loops, onlyLoops}
-use Rattle.table.specs.declared.Loops.{Loops}
-use Rattle.table.specs.mirror.Names.{Namers, nearLoops, loopsOver}
+use Rattle.table.specs.mirror.Names.{nearLoops, loopsOver}
 use Rattle.table.proofs.Names.{namer-le}
 
 -- the test of the walk
@@ -77,7 +75,8 @@ module _ (t : List ℕ) (start at left met near up : ℕ) (only il : Bool) (test
         all = omega (arith, one-is il);
         next = rw ey (step-next only il near (nearLoops t rest) ∙ n′);
         few = omega (arith, w .few, one-most il);
-        fewer = omega (arith, w .fewer, one-most (only && il)) }
+        fewer = omega (arith, w .fewer, one-most (only && il));
+      }
 
 pub walking-end : (t : List ℕ) (start at left met near : ℕ) (only : Bool) → (ltb 0 left && not (eqb at 0)) ≡ false
     → Walking t start at left met near only → record { loops = met; near = near } ≡ loopsOver t start

@@ -1,6 +1,6 @@
 -- What the rules of the table give its tree, each as a family over the tree: no Back leaves it, nothing is in flight, exchanges are between
 -- two roles and have arms of different labels, roles and labels are in range, each Back is guarded. Assumes nothing.
-use Prim.Native.Nat.{ℕ, zero, suc, _+_, _≤_, _<_}
+use Prim.Native.Nat.{ℕ, suc, _+_, _≤_, _<_}
 use mathlib.Core.Logic.{_≢_}
 use Rattle.table.specs.Tree.{Global, end, exchange, flight, loop, back, Arms, nil, arm}
 

@@ -1,15 +1,17 @@
 // The global protocol table: its limits, and the check of its rules.
-use words::{wide, word};
+use words::wide;
+use words::word;
 ghost use mathlib.Core.Path.{_≡_};
 ghost use mathlib.Core.Bool.{cond};
 ghost use Prim.Native.Nat.{_+_, _≤_, _<_};
-ghost use lib.ListN.{length, getD};
+ghost use lib.ListN.{getD};
 ghost use Rattle.words.specs.Rows.{rowsOf};
 ghost use Rattle.table.specs.Limits.{base};
+ghost use Rattle.table.specs.Numbers.{KIND, UNGUARDED};
 ghost use Rattle.table.specs.Rows.{row as rowAt, rowOf};
 ghost use Rattle.table.specs.Rules.{kindBroken, fieldBroken, toArm, toOther, linkBroken, namedBroken, unboundBroken, unguardedBroken, rules as rulesInOrder};
 ghost use Rattle.table.specs.Check.{accepted, sized, tested, checkOf};
-ghost use Rattle.table.specs.mirror.Names.{nearLink, farLink, put, Namers, Counts, Filled, loopsOver};
+ghost use Rattle.table.specs.mirror.Names.{nearLink, farLink, Small, put, Namers, Counts, Filled, loopsOver};
 ghost use Rattle.table.specs.mirror.Chain.{repeatedOf, chainOf};
 ghost use Rattle.table.specs.mirror.Blame.{ruleOf, blames, least};
 
@@ -35,12 +37,21 @@ impl Table {
     {
         let length = words.len();
         if (length == 0) | (length % 4 != 0) | (Table::ROWS * 4 < length) {
-            return Verdict { number: Verdict::WORDS, place: 0 };
+            return Verdict {
+                number: Verdict::WORDS,
+                place: 0,
+            };
         }
         if (roles < Table::FEWEST_ROLES) | (Table::ROLES < roles) {
-            return Verdict { number: Verdict::ROLES, place: 0 };
+            return Verdict {
+                number: Verdict::ROLES,
+                place: 0,
+            };
         }
-        Verdict { number: Verdict::ACCEPTED, place: 0 }
+        Verdict {
+            number: Verdict::ACCEPTED,
+            place: 0,
+        }
     }
 
     // Rules 1, 2 and 4 to 10 in order, each naming the lowest row that breaks it.
@@ -121,7 +132,12 @@ fn read(words: &[u16], row: usize) -> Row
     let first = wide(word(words, row, 1));
     let second = wide(word(words, row, 2));
     let third = wide(word(words, row, 3));
-    Row { kind: kind, first: first, second: second, third: third }
+    Row {
+        kind: kind,
+        first: first,
+        second: second,
+        third: third,
+    }
 }
 
 // ---- rules 4 to 6: a row's own words
@@ -174,7 +190,9 @@ fn link_broken(words: &[u16], row: usize) -> bool
     let kind = this.kind;
     match kind {
         EXCHANGE => !to_arm(words, row, this.third),
-        ARM => (row == 0) | !(to_other(words, row, this.second) & ((this.third == 0) | to_arm(words, row, this.third))),
+        ARM => (row == 0)
+            | !(to_other(words, row, this.second)
+                & ((this.third == 0) | to_arm(words, row, this.third))),
         LOOP => !to_other(words, row, this.first),
         _ => false,
     }
@@ -182,11 +200,14 @@ fn link_broken(words: &[u16], row: usize) -> bool
 
 // ---- rule 7: who names whom
 
-// For each row, the lowest row with a link to it (as many as there are rows for none), and how many links name it. One place more than
-// a table has rows, since a link may name the row after the last. Place 0 means nothing: row 0 is named by none.
+// One place more than a table has rows, since a link may name the row after the last.
+const PLACES: usize = Table::ROWS + 1;
+
+// For each row, the lowest row with a link to it (the number of rows for none), and how many links name it. Place 0 means nothing:
+// no rule asks who names row 0.
 struct Named {
-    by: [u16; 257],
-    times: [u16; 257],
+    by: [u16; PLACES],
+    times: [u16; PLACES],
 }
 
 // The row that a row leads to: first arm, continuation or body; 0 for none.
@@ -211,17 +232,18 @@ fn far_link(words: &[u16], row: usize) -> usize
     pick(this.kind == ARM, this.third, 0)
 }
 
-// The row names `to`.
-fn name(by: &mut [u16; 257], times: &mut [u16; 257], to: usize, row: u16)
+// The row names `to`: a place past the last is no row's, and is left out.
+fn name(by: &mut [u16; PLACES], times: &mut [u16; PLACES], to: usize, row: u16)
     requires { ⌜ getD (now times) to 0 < 65535 ⌝ }
     ensures { λ _. ⌜ (now (by .exit) ≡ put (now (by .entry)) to row) × (now (times .exit) ≡ put (now (times .entry)) to (getD (now (times .entry)) to 0 + 1)) ⌝ }
 {
-    if to < 257 {
+    if to < PLACES {
         by[to] = row;
         times[to] += 1;
     }
 }
 
+// A row's number as a word.
 fn narrow(row: usize) -> u16
     requires { ⌜ row < 65536 ⌝ }
     ensures { λ r. ⌜ r ≡ row ⌝ }
@@ -231,13 +253,13 @@ fn narrow(row: usize) -> u16
 
 // Rows are taken from the last to the first, so the lowest that names a row is written last.
 fn name_rows(words: &[u16]) -> Named
-    requires { ⌜ length (now words) ≤ 1024 ⌝ }
+    requires { ⌜ Small (now words) ⌝ }
     ensures { λ r. ⌜ (Namers (now (words .entry)) (r .by)) × (Counts (now (words .entry)) (r .times)) ⌝ }
 {
     let mut row = words.len() / 4;
     let none = narrow(row);
-    let mut by = [none; 257];
-    let mut times = [0u16; 257];
+    let mut by = [none; PLACES];
+    let mut times = [0u16; PLACES];
     while 0 < row {
         row -= 1;
         let near = near_link(words, row);
@@ -246,12 +268,15 @@ fn name_rows(words: &[u16]) -> Named
         name(&mut by, &mut times, near, at);
         name(&mut by, &mut times, far, at);
     }
-    Named { by: by, times: times }
+    Named {
+        by: by,
+        times: times,
+    }
 }
 
 // A row but 0 not named exactly once.
-fn named_broken(words: &[u16], times: &[u16; 257], row: usize) -> bool
-    requires { ⌜ (length (now words) ≤ 1024) × (row < rowsOf (now words)) × (Counts (now words) (now times)) ⌝ }
+fn named_broken(words: &[u16], times: &[u16; PLACES], row: usize) -> bool
+    requires { ⌜ (Small (now words)) × (row < rowsOf (now words)) × (Counts (now words) (now times)) ⌝ }
     ensures { λ r. ⌜ r ≡ namedBroken (now (words .entry)) row ⌝ }
 {
     (row != 0) & (times[row] != 1)
@@ -306,8 +331,8 @@ struct Loops {
 }
 
 // Goes up from row to row by the rows that name them. Rows are counted, so that it ends for any words.
-fn around(words: &[u16], by: &[u16; 257], row: usize) -> Loops
-    requires { ⌜ (length (now words) ≤ 1024) × (row < rowsOf (now words)) × (Namers (now words) (now by)) ⌝ }
+fn around(words: &[u16], by: &[u16; PLACES], row: usize) -> Loops
+    requires { ⌜ (Small (now words)) × (row < rowsOf (now words)) × (Namers (now words) (now by)) ⌝ }
     ensures { λ r. ⌜ r ≡ loopsOver (now (words .entry)) row ⌝ }
 {
     let mut at = row;
@@ -324,12 +349,15 @@ fn around(words: &[u16], by: &[u16; 257], row: usize) -> Loops
         near += pick(only, 1, 0);
         left -= 1;
     }
-    Loops { loops: loops, near: near }
+    Loops {
+        loops: loops,
+        near: near,
+    }
 }
 
 // A Back with too few Loops around it.
-fn unbound_broken(words: &[u16], by: &[u16; 257], row: usize) -> bool
-    requires { ⌜ (length (now words) ≤ 1024) × (row < rowsOf (now words)) × (Namers (now words) (now by)) ⌝ }
+fn unbound_broken(words: &[u16], by: &[u16; PLACES], row: usize) -> bool
+    requires { ⌜ (Small (now words)) × (row < rowsOf (now words)) × (Namers (now words) (now by)) ⌝ }
     ensures { λ r. ⌜ r ≡ unboundBroken (now (words .entry)) row (rowAt (now (words .entry)) row) ⌝ }
 {
     let this = read(words, row);
@@ -340,8 +368,8 @@ fn unbound_broken(words: &[u16], by: &[u16; 257], row: usize) -> bool
 }
 
 // A Back with only Loops between it and its Loop.
-fn unguarded_broken(words: &[u16], by: &[u16; 257], row: usize) -> bool
-    requires { ⌜ (length (now words) ≤ 1024) × (row < rowsOf (now words)) × (Namers (now words) (now by)) ⌝ }
+fn unguarded_broken(words: &[u16], by: &[u16; PLACES], row: usize) -> bool
+    requires { ⌜ (Small (now words)) × (row < rowsOf (now words)) × (Namers (now words) (now by)) ⌝ }
     ensures { λ r. ⌜ r ≡ unguardedBroken (now (words .entry)) row (rowAt (now (words .entry)) row) ⌝ }
 {
     let this = read(words, row);
@@ -354,8 +382,15 @@ fn unguarded_broken(words: &[u16], by: &[u16; 257], row: usize) -> bool
 // ---- the rules in order
 
 // What a rule finds at a row: the row itself where it breaks the rule, for TWICE the arm of its chain that does; the number of rows for none.
-fn blamed(words: &[u16], roles: usize, by: &[u16; 257], times: &[u16; 257], rule: u8, row: usize) -> usize
-    requires { ⌜ (Filled (now words) (now by) (now times)) × (row < rowsOf (now words)) × (4 ≤ rule) × (rule ≤ 10) ⌝ }
+fn blamed(
+    words: &[u16],
+    roles: usize,
+    by: &[u16; PLACES],
+    times: &[u16; PLACES],
+    rule: u8,
+    row: usize,
+) -> usize
+    requires { ⌜ (Filled (now words) (now by) (now times)) × (row < rowsOf (now words)) × (KIND ≤ rule) × (rule ≤ UNGUARDED) ⌝ }
     ensures { λ r. ⌜ r ≡ blames (now (words .entry)) roles (ruleOf rule) row ⌝ }
 {
     let rows = words.len() / 4;
@@ -371,8 +406,8 @@ fn blamed(words: &[u16], roles: usize, by: &[u16; 257], times: &[u16; 257], rule
 }
 
 // The lowest row that breaks the rule, or the number of rows for none.
-fn lowest(words: &[u16], roles: usize, by: &[u16; 257], times: &[u16; 257], rule: u8) -> usize
-    requires { ⌜ (Filled (now words) (now by) (now times)) × (4 ≤ rule) × (rule ≤ 10) ⌝ }
+fn lowest(words: &[u16], roles: usize, by: &[u16; PLACES], times: &[u16; PLACES], rule: u8) -> usize
+    requires { ⌜ (Filled (now words) (now by) (now times)) × (KIND ≤ rule) × (rule ≤ UNGUARDED) ⌝ }
     ensures { λ r. ⌜ r ≡ least (blames (now (words .entry)) roles (ruleOf rule)) (rowsOf (now (words .entry))) (rowsOf (now (words .entry))) ⌝ }
 {
     let rows = words.len() / 4;
@@ -386,9 +421,10 @@ fn lowest(words: &[u16], roles: usize, by: &[u16; 257], times: &[u16; 257], rule
     least
 }
 
-// Rules 4 to 10 in order, each over all rows.
-fn rules(words: &[u16], roles: usize) -> Verdict
-    requires { ⌜ length (now words) ≤ 1024 ⌝ }
+// Rules 4 to 10 in order, each over all rows. Who names each row is found once, in one pass. A rule then looks at each row once; at a Back
+// also at the rows over it, at an Exchange also at each two arms of its chain.
+pub fn rules(words: &[u16], roles: usize) -> Verdict
+    requires { ⌜ Small (now words) ⌝ }
     ensures { λ r. ⌜ r ≡ tested base (now (words .entry)) roles rulesInOrder accepted ⌝ }
 {
     let rows = words.len() / 4;
@@ -399,9 +435,15 @@ fn rules(words: &[u16], roles: usize) -> Verdict
     while rule <= Verdict::UNGUARDED {
         let row = lowest(words, roles, &by, &times, rule);
         if row < rows {
-            return Verdict { number: rule, place: row };
+            return Verdict {
+                number: rule,
+                place: row,
+            };
         }
         rule += 1;
     }
-    Verdict { number: Verdict::ACCEPTED, place: 0 }
+    Verdict {
+        number: Verdict::ACCEPTED,
+        place: 0,
+    }
 }

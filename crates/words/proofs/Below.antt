@@ -132,3 +132,25 @@ sum-two f (suc n) j k m l =
     (λ q. let h = sum-at f n j (omega arith) in rw q (omega arith))
     (λ q. let h = sum-two f n j k m q in omega arith)
     (eq-or-lt-of-le (le-of-suc-le-suc l))
+
+pub sum-le : (f g : ℕ → ℕ) (n : ℕ) → ((k : ℕ) → k < n → f k ≤ g k) → sum f n ≤ sum g n
+unfolding sum
+sum-le f g zero h = omega arith
+sum-le f g (suc n) h =
+    let a = sum-le f g n (λ k l. h k (omega arith)) in
+    let b = h n (omega arith) in
+    omega arith
+
+pub sum-add : (f g : ℕ → ℕ) (n : ℕ) → sum (λ k. f k + g k) n ≡ sum f n + sum g n
+unfolding sum
+sum-add f g zero = omega arith
+sum-add f g (suc n) = let a = sum-add f g n in omega arith
+
+-- at most one for each number
+pub sum-most : (f : ℕ → ℕ) (n : ℕ) → ((k : ℕ) → k < n → f k ≤ 1) → sum f n ≤ n
+unfolding sum
+sum-most f zero h = omega arith
+sum-most f (suc n) h =
+    let a = sum-most f n (λ k l. h k (omega arith)) in
+    let b = h n (omega arith) in
+    omega arith

@@ -1,17 +1,13 @@
-use mathlib.Core.Path.{_≡_, sym, _∙_, refl, ap}
+-- `table::around` meets its contract. The invariant: the Loops met with those still over the row are those over the start. Assumes nothing.
+use mathlib.Core.Path.{_∙_, ap}
+use mathlib.Core.Bool.{_&&_}
+use lib.Dec.{eqb}
 use native.Mathlib.Omega.{arith}
+use Rattle.table.specs.Rows.{isLoop}
 use Rattle.table.proofs.Rows.{is-loop}
 use Rattle.table.proofs.Walk.{Walking, walking-start, walking-step, walking-end, goes-on, one-most}
-use lib.Dec.{eqb}
-use mathlib.Core.Bool.{_&&_}
-use Rattle.table.specs.Rows.{isLoop}
 use Rattle.table.proofs.around.Statement.{statement}
 use Rattle.table.proofs.around.Tie as tie
-use Rattle.table.proofs.around.Reads as reads
-use Rattle.table.proofs.around.Lts as lts
-use Rattle.table.proofs.pick.Reads as pick-reads
-use Rattle.table.proofs.read.Reads as read-reads
-use Rattle.words.proofs.wide.Reads as wide-reads
 
 abbrev Inv-loop : tie.InvT-loop
 Inv-loop words by row at₀ left₀ loops₀ near₀ only₀ at left loops near only = Walking words row at left loops near only
@@ -19,53 +15,41 @@ Inv-loop words by row at₀ left₀ loops₀ near₀ only₀ at left loops near 
 abbrev μ-loop : tie.MeasureT-loop
 μ-loop words by row at₀ left₀ loops₀ near₀ only₀ at left loops near only = left
 
--- src/lib.rt:318:5
 loop-holds : tie.Need-loop-holds Inv-loop μ-loop
 loop-holds c = walking-start (c .before .args .words .now) (c .before .args .row) (omega arith)
 
--- src/lib.rt:319:19
 mul-wide : tie.Need-mul-wide Inv-loop μ-loop
 mul-wide c = omega arith
 
--- src/lib.rt:319:19
 element-copy-out-wide : tie.Need-element-copy-out-wide Inv-loop μ-loop
 element-copy-out-wide c = omega arith
 
--- src/lib.rt:319:9
 wide-requires : tie.Need-wide-requires Inv-loop μ-loop
 wide-requires c κs = tt
 
--- src/lib.rt:320:13
 read-requires : tie.Need-read-requires Inv-loop μ-loop
 read-requires c κs = tt
 
--- src/lib.rt:323:18
 pick-requires : tie.Need-pick-requires Inv-loop μ-loop
 pick-requires c κs = tt
 
--- src/lib.rt:323:9
 add-loops : tie.Need-add-loops Inv-loop μ-loop
 add-loops c = omega (arith, c .before .before .before .before .before .before .loop .inv .few, one-most (eqb (c .before .before .read .result .kind) 3), c .pick .ensures)
 
--- src/lib.rt:324:17
 pick-requires-2 : tie.Need-pick-requires-2 Inv-loop μ-loop
 pick-requires-2 c κs = tt
 
--- src/lib.rt:324:9
 add-near : tie.Need-add-near Inv-loop μ-loop
 add-near c = omega (arith, c .before .before .before .before .before .before .before .loop .inv .fewer, one-most (c .before .before .before .before .before .before .before .loop .only && eqb (c .before .before .before .read .result .kind) 3), c .pick2 .ensures)
 
--- src/lib.rt:325:9
 sub-left : tie.Need-sub-left Inv-loop μ-loop
 sub-left c = goes-on (c .before .before .before .before .before .before .before .loop .left) (c .before .before .before .before .before .before .before .loop .at) (c .before .before .before .before .before .before .loop-test .taken) .0
 
--- src/lib.rt:318:5
 loop-less : tie.Need-loop-less Inv-loop μ-loop
 loop-less c = let h = goes-on (c .before .before .before .before .before .before .before .loop .left) (c .before .before .before .before .before .before .before .loop .at) (c .before .before .before .before .before .before .loop-test .taken) in omega arith
 
--- src/lib.rt:318:5
 loop-again : tie.Need-loop-again Inv-loop μ-loop
-loop-again c = 
+loop-again c =
     let at = c .before .before .before .before .before .before .before .loop .at in
     let h = goes-on (c .before .before .before .before .before .before .before .loop .left) at (c .before .before .before .before .before .before .loop-test .taken) in
     walking-step (c .before .before .before .before .before .before .before .before .before .args .words .now) (c .before .before .before .before .before .before .before .before .before .args .row) at (c .before .before .before .before .before .before .before .loop .left) (c .before .before .before .before .before .before .before .loop .loops) (c .before .before .before .before .before .before .before .loop .near) (c .before .before .before .before .wide .result)
@@ -74,7 +58,6 @@ loop-again c =
     (ap isLoop (c .before .before .before .read .ensures) ∙ is-loop (c .before .before .before .read .result .kind) (c .before .before .before .read .result .first) (c .before .before .before .read .result .second) (c .before .before .before .read .result .third))
     (c .before .before .before .before .before .before .before .loop .inv) _ _ (c .before .pick .ensures) (c .pick2 .ensures)
 
--- src/lib.rt:309:1
 returns : tie.Need-returns Inv-loop μ-loop
 returns c = walking-end _ _ _ _ _ _ _ (c .loop-test .left) (c .before .loop .inv)
 

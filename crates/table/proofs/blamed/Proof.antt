@@ -1,104 +1,75 @@
-use mathlib.Core.Path.{_≡_, sym, _∙_, refl, ap}
+-- `table::blamed` meets its contract: each arm of the match is one rule. Assumes nothing.
+use mathlib.Core.Path.{_≡_}
 use native.Mathlib.Omega.{arith}
+use borrow.Author.Needs.{needs}
 use Rattle.table.specs.Rules.{breaks}
 use Rattle.table.specs.mirror.Blame.{blames}
-use borrow.Author.Needs.{needs}
 use Rattle.table.proofs.blamed.Statement.{statement}
 use Rattle.table.proofs.blamed.Tie as tie
-use Rattle.table.proofs.blamed.Reads as reads
-use Rattle.table.proofs.blamed.Lts as lts
-use Rattle.table.proofs.field_broken.Reads as field-broken-reads
-use Rattle.table.proofs.kind_broken.Reads as kind-broken-reads
-use Rattle.table.proofs.link_broken.Reads as link-broken-reads
-use Rattle.table.proofs.named_broken.Reads as named-broken-reads
-use Rattle.table.proofs.pick.Reads as pick-reads
-use Rattle.table.proofs.twice.Reads as twice-reads
-use Rattle.table.proofs.unbound_broken.Reads as unbound-broken-reads
-use Rattle.table.proofs.unguarded_broken.Reads as unguarded-broken-reads
 
--- src/lib.rt:363:31
 kind-broken-requires : tie.Need-kind-broken-requires
 kind-broken-requires c κs = search needs
 
--- src/lib.rt:363:26
 pick-requires : tie.Need-pick-requires
 pick-requires c κs = search needs
 
--- src/lib.rt:364:32
 field-broken-requires : tie.Need-field-broken-requires
 field-broken-requires c κs = search needs
 
--- src/lib.rt:364:27
 pick-requires-2 : tie.Need-pick-requires-2
 pick-requires-2 c κs = search needs
 
--- src/lib.rt:365:31
 link-broken-requires : tie.Need-link-broken-requires
 link-broken-requires c κs = search needs
 
--- src/lib.rt:365:26
 pick-requires-3 : tie.Need-pick-requires-3
 pick-requires-3 c κs = search needs
 
--- src/lib.rt:366:32
 named-broken-requires : tie.Need-named-broken-requires
 named-broken-requires c κs = (c .before .before .pre .0 .0, c .before .before .pre .1, c .before .before .pre .0 .2)
 
--- src/lib.rt:366:27
 pick-requires-4 : tie.Need-pick-requires-4
 pick-requires-4 c κs = search needs
 
--- src/lib.rt:367:27
 twice-requires : tie.Need-twice-requires
 twice-requires c κs = search needs
 
--- src/lib.rt:368:34
 unbound-broken-requires : tie.Need-unbound-broken-requires
 unbound-broken-requires c κs = (c .before .before .pre .0 .0, c .before .before .pre .1, c .before .before .pre .0 .1)
 
--- src/lib.rt:368:29
 pick-requires-5 : tie.Need-pick-requires-5
 pick-requires-5 c κs = search needs
 
--- src/lib.rt:369:19
 unguarded-broken-requires : tie.Need-unguarded-broken-requires
 unguarded-broken-requires c κs = (c .before .before .pre .0 .0, c .before .before .pre .1, c .before .before .pre .0 .1)
 
--- src/lib.rt:369:14
 pick-requires-6 : tie.Need-pick-requires-6
 pick-requires-6 c κs = search needs
 
--- src/lib.rt:357:1
 returns : tie.Need-returns
 unfolding blames breaks
 returns c = rw (c .before .before .match .keys1, ← c .before .kind-broken .ensures) (c .pick .ensures)
 
--- src/lib.rt:357:1
 returns-2 : tie.Need-returns-2
 unfolding blames breaks
 returns-2 c = rw (c .before .before .match .keys2, ← c .before .field-broken .ensures) (c .pick2 .ensures)
 
--- src/lib.rt:357:1
 returns-3 : tie.Need-returns-3
 unfolding blames breaks
 returns-3 c = rw (c .before .before .match .keys3, ← c .before .link-broken .ensures) (c .pick3 .ensures)
 
--- src/lib.rt:357:1
 returns-4 : tie.Need-returns-4
 unfolding blames breaks
 returns-4 c = rw (c .before .before .match .keys4, ← c .before .named-broken .ensures) (c .pick4 .ensures)
 
--- src/lib.rt:357:1
 returns-5 : tie.Need-returns-5
 unfolding blames
 returns-5 c = rw (c .before .match .keys5) (c .twice .ensures)
 
--- src/lib.rt:357:1
 returns-6 : tie.Need-returns-6
 unfolding blames breaks
 returns-6 c = rw (c .before .before .match .keys6, ← c .before .unbound-broken .ensures) (c .pick5 .ensures)
 
--- src/lib.rt:357:1
 returns-7 : tie.Need-returns-7
 unfolding blames breaks
 returns-7 c = let e : c .before .before .before .before .args .rule ≡ 10 = omega arith in rw (e, ← c .before .unguarded-broken .ensures) (c .pick6 .ensures)

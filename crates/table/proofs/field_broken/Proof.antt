@@ -1,39 +1,29 @@
+-- `table::field_broken` meets its contract: each arm of the match is the rule of that kind. Assumes nothing.
 use Prim.Native.Nat.{_<_}
-use mathlib.Core.Path.{_≡_, sym, _∙_, refl, ap}
 use native.Mathlib.Omega.{arith}
-use Rattle.table.proofs.Rows.{row-other}
 use borrow.Author.Needs.{needs}
+use Rattle.table.proofs.Rows.{row-other}
 use Rattle.table.proofs.field_broken.Statement.{statement}
 use Rattle.table.proofs.field_broken.Tie as tie
-use Rattle.table.proofs.field_broken.Reads as reads
-use Rattle.table.proofs.field_broken.Lts as lts
-use Rattle.table.proofs.read.Reads as read-reads
 
--- src/lib.rt:141:9
 read-requires : tie.Need-read-requires
 read-requires c κs = search needs
 
--- src/lib.rt:138:1
 returns : tie.Need-returns
 returns c = rw (c .before .before .before .before .read .ensures, c .before .before .before .match .keys1)
 
--- src/lib.rt:138:1
 returns-2 : tie.Need-returns-2
 returns-2 c = rw (c .before .before .before .before .read .ensures, c .before .before .before .match .keys2)
 
--- src/lib.rt:138:1
 returns-3 : tie.Need-returns-3
 returns-3 c = rw (c .before .before .read .ensures, c .before .match .keys3)
 
--- src/lib.rt:138:1
 returns-4 : tie.Need-returns-4
 returns-4 c = rw (c .before .before .before .read .ensures, c .before .before .match .keys4)
 
--- src/lib.rt:138:1
 returns-5 : tie.Need-returns-5
 returns-5 c = rw (c .before .before .before .read .ensures, c .before .before .match .keys5)
 
--- src/lib.rt:138:1
 returns-6 : tie.Need-returns-6
 returns-6 c = let h : 4 < c .before .read .result .kind = omega arith in rw (c .before .read .ensures, row-other (c .before .read .result .kind) (c .before .read .result .first) (c .before .read .result .second) (c .before .read .result .third) h)
 

@@ -1,15 +1,12 @@
+-- `table::lowest` meets its contract. The invariant: the least of what was found at the rows passed. Assumes nothing.
 use Prim.Native.Nat.{_-_, _≤_}
-use mathlib.Core.Path.{_≡_, sym, _∙_, refl, ap}
+use mathlib.Core.Path.{_≡_, refl}
 use native.Mathlib.Omega.{arith}
 use native.Mathlib.Numerals.{add-one}
 use Rattle.words.specs.Rows.{rowsOf}
 use Rattle.table.specs.mirror.Blame.{blames, ruleOf, least}
 use Rattle.table.proofs.lowest.Statement.{statement}
 use Rattle.table.proofs.lowest.Tie as tie
-use Rattle.table.proofs.lowest.Reads as reads
-use Rattle.table.proofs.lowest.Lts as lts
-use Rattle.table.proofs.blamed.Reads as blamed-reads
-use Rattle.table.proofs.pick.Reads as pick-reads
 
 abbrev Inv-loop : tie.InvT-loop
 Inv-loop words roles by times rule rows least₀ row₀ least′ row = (row ≤ rowsOf words) × (least′ ≡ least (blames words roles (ruleOf rule)) row (rowsOf words))
@@ -17,33 +14,26 @@ Inv-loop words roles by times rule rows least₀ row₀ least′ row = (row ≤ 
 abbrev μ-loop : tie.MeasureT-loop
 μ-loop words roles by times rule rows least₀ row₀ least row = rowsOf words - row
 
--- src/lib.rt:381:5
 loop-holds : tie.Need-loop-holds Inv-loop μ-loop
 unfolding least
 loop-holds c = (omega arith, refl)
 
--- src/lib.rt:382:13
 blamed-requires : tie.Need-blamed-requires Inv-loop μ-loop
 blamed-requires c κs = (c .before .before .before .pre .0, c .loop-test .taken, c .before .before .before .pre .1, c .before .before .before .pre .2)
 
--- src/lib.rt:383:9
 pick-requires : tie.Need-pick-requires Inv-loop μ-loop
 pick-requires c κs = tt
 
--- src/lib.rt:384:9
 add-row : tie.Need-add-row Inv-loop μ-loop
 add-row c = omega arith
 
--- src/lib.rt:381:5
 loop-less : tie.Need-loop-less Inv-loop μ-loop
 loop-less c = omega arith
 
--- src/lib.rt:381:5
 loop-again : tie.Need-loop-again Inv-loop μ-loop
 unfolding least
 loop-again c = (omega arith, rw (add-one, ← c .before .before .before .loop .inv .1, ← c .before .blamed .ensures) (c .pick .ensures))
 
--- src/lib.rt:374:1
 returns : tie.Need-returns Inv-loop μ-loop
 returns c = let e : c .before .loop .row ≡ rowsOf (c .before .before .before .args .words .now) = omega arith in rw e at (c .before .loop .inv .1)
 

@@ -1,41 +1,31 @@
-use mathlib.Core.Path.{_≡_, sym, _∙_, refl, ap}
-use native.Mathlib.Omega.{arith}
+-- `table::name` meets its contract: one store into each list, or none. Assumes nothing.
+use mathlib.Core.Path.{refl}
 use borrow.Author.Tests.{lt-ltb, le-ltb}
 use borrow.Author.Needs.{needs}
 use Rattle.table.proofs.name.Statement.{statement}
 use Rattle.table.proofs.name.Tie as tie
-use Rattle.table.proofs.name.Reads as reads
-use Rattle.table.proofs.name.Lts as lts
 
--- src/lib.rt:220:9
 mul-by : tie.Need-mul-by
 mul-by c = search needs
 
--- src/lib.rt:220:9
 element-write-by : tie.Need-element-write-by
 element-write-by c = search needs
 
--- src/lib.rt:221:9
 mul-times : tie.Need-mul-times
 mul-times c = search needs
 
--- src/lib.rt:221:9
 element-copy-out-times : tie.Need-element-copy-out-times
 element-copy-out-times c = search needs
 
--- src/lib.rt:221:9
 add-times : tie.Need-add-times
 add-times c = search needs
 
--- src/lib.rt:221:9
 element-write-times : tie.Need-element-write-times
 element-write-times c = search needs
 
--- src/lib.rt:215:1
 returns : tie.Need-returns
 returns c = rw (lt-ltb _ _ (c .before .if1 .taken)) (refl, refl)
 
--- src/lib.rt:215:1
 returns-2 : tie.Need-returns-2
 returns-2 c = rw (le-ltb _ _ (c .if1 .left)) (refl, refl)
 

@@ -1,21 +1,16 @@
-use Rattle.table.proofs.Names.{named-is}
-use mathlib.Core.Path.{_≡_, sym, _∙_, refl, ap}
+-- `table::named_broken` meets its contract. Assumes nothing.
 use native.Mathlib.Omega.{arith}
 use borrow.Author.Needs.{needs}
+use Rattle.table.proofs.Names.{named-is}
 use Rattle.table.proofs.named_broken.Statement.{statement}
 use Rattle.table.proofs.named_broken.Tie as tie
-use Rattle.table.proofs.named_broken.Reads as reads
-use Rattle.table.proofs.named_broken.Lts as lts
 
--- src/lib.rt:257:19
 mul-result : tie.Need-mul-result
 mul-result c = search needs
 
--- src/lib.rt:257:19
 element-copy-out-result : tie.Need-element-copy-out-result
 element-copy-out-result c = search needs
 
--- src/lib.rt:253:1
 returns : tie.Need-returns
 returns c = named-is (c .before .args .words .now) (c .before .args .row) _ (λ h. c .before .pre .2 (c .before .args .row) h (omega arith))
 

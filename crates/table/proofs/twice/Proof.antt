@@ -1,27 +1,19 @@
-use mathlib.Core.Path.{_≡_, sym, _∙_, refl, ap}
-use native.Mathlib.Omega.{arith}
-use Rattle.table.proofs.Chain.{no-chain}
+-- `table::twice` meets its contract: only an Exchange has a chain. Assumes nothing.
+use mathlib.Core.Path.{sym}
 use borrow.Author.Needs.{needs}
+use Rattle.table.proofs.Chain.{no-chain}
 use Rattle.table.proofs.twice.Statement.{statement}
 use Rattle.table.proofs.twice.Tie as tie
-use Rattle.table.proofs.twice.Reads as reads
-use Rattle.table.proofs.twice.Lts as lts
-use Rattle.table.proofs.read.Reads as read-reads
-use Rattle.table.proofs.repeated.Reads as repeated-reads
 
--- src/lib.rt:293:9
 read-requires : tie.Need-read-requires
 read-requires c κs = search needs
 
--- src/lib.rt:295:9
 returns : tie.Need-returns
 returns c = rw (c .before .before .read .ensures) (sym (no-chain (c .before .before .before .before .args .words .now) (c .before .before .read .result .kind) (c .before .before .read .result .first) (c .before .before .read .result .second) (c .before .before .read .result .third) (c .if1 .taken)))
 
--- src/lib.rt:297:5
 repeated-requires : tie.Need-repeated-requires
 repeated-requires c κs = search needs
 
--- src/lib.rt:290:1
 returns-2 : tie.Need-returns-2
 returns-2 c = rw (c .before .before .before .read .ensures, c .before .if1 .left) (c .repeated .ensures)
 

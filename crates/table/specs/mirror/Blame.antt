@@ -1,15 +1,13 @@
 -- What a rule finds at each row, and the least of it over all rows. Assumes nothing.
 use Prim.Native.Nat.{ℕ, zero, suc}
-use mathlib.Core.Bool.{Bool, cond}
-use mathlib.Core.List.{List, [], _∷_}
+use mathlib.Core.Bool.{cond}
+use mathlib.Core.List.{List}
 use lib.Dec.{ltb}
 use Rattle.words.specs.Rows.{rowsOf}
 use Rattle.table.specs.Limits.{base}
 use Rattle.table.specs.Rows.{row}
-use Rattle.table.specs.Rules.{Rule, kind, field, link, named, twice, unbound, unguarded, rules, breaks}
-use Rattle.table.specs.Check.{tested, accepted}
+use Rattle.table.specs.Rules.{Rule, kind, field, link, named, twice, unbound, unguarded, breaks}
 use Rattle.table.specs.mirror.Chain.{chainOf}
-use Rattle.table.specs.declared.Verdict.{Verdict}
 
 -- the rule of each number 4 to 10
 abbrev pub ruleOf : ℕ → Rule

@@ -1,12 +1,12 @@
 -- Who names each row, as two lists that one pass over the rows fills. Assumes nothing.
-use Prim.Native.Nat.{ℕ, zero, suc, _+_, _≤_, _<_}
-use mathlib.Core.Bool.{cond, _&&_}
+use Prim.Native.Nat.{ℕ, suc, _*_, _≤_, _<_}
+use mathlib.Core.Bool.{cond}
 use mathlib.Core.List.{List, [], _∷_}
 use mathlib.Core.Path.{_≡_}
 use lib.Dec.{ltb}
 use lib.ListN.{getD, length, set}
 use Rattle.words.specs.Rows.{rowsOf}
-use Rattle.words.specs.Below.{one}
+use Rattle.table.specs.Limits.{base}
 use Rattle.table.specs.Rows.{Row, End, Exchange, Arm, Loop, Back, Other, row, isLoop}
 use Rattle.table.specs.Above.{timesNamed, namer, loops, above}
 use Rattle.table.specs.declared.Loops.{Loops}
@@ -29,9 +29,17 @@ farLink (Loop b x y) = 0
 farLink (Back d x y) = 0
 farLink Other = 0
 
--- a list of 257 with x for its i-th element, where i is inside
+-- the limit of the code
+abbrev pub Small : List ℕ → Type 0
+Small t = length t ≤ base .rows * 4
+
+-- one place for each row, and one for the row after the last
+abbrev pub places : ℕ
+places = suc (base .rows)
+
+-- a list of so many places with x for its i-th element, where i is inside
 abbrev pub put : List ℕ → ℕ → ℕ → List ℕ
-put l i x = cond (ltb i 257) (set l i x) l
+put l i x = cond (ltb i places) (set l i x) l
 
 -- the list has, for each row but 0 and for the row after the last, the lowest row that names it
 abbrev pub Namers : List ℕ → List ℕ → Type 0
@@ -41,9 +49,9 @@ Namers t by = (i : ℕ) → 0 < i → i ≤ rowsOf t → getD by i 0 ≡ namer t
 abbrev pub Counts : List ℕ → List ℕ → Type 0
 Counts t times = (i : ℕ) → 0 < i → i ≤ rowsOf t → getD times i 0 ≡ timesNamed t i
 
--- both, for a table of at most 256 rows
+-- both, for a table inside the limit
 abbrev pub Filled : List ℕ → List ℕ → List ℕ → Type 0
-Filled t by times = (length t ≤ 1024) × (Namers t by) × (Counts t times)
+Filled t by times = (Small t) × (Namers t by) × (Counts t times)
 
 -- how many Loops these rows begin with
 unfoldable pub nearLoops : List ℕ → List ℕ → ℕ

@@ -1,0 +1,220 @@
+// The merge of two parts. A part is one word a row in the order met, kind + 8 x argument (specs/mirror/Codes.antt): 0 End, 1 the mark
+// behind an action's last arm, 2 Arm, 3 Loop, 4 Back, 5 Send, 6 Receive. Every place is tested before use, so no sum wraps, whatever
+// the words are. What these functions do with the words of parts is proved in proofs/MergeMeaning.antt and MergeJoin.antt.
+ghost use mathlib.Core.Path.{_≡_};
+ghost use mathlib.Core.Bool.{cond};
+ghost use Prim.Native.Nat.{_<_, _≤_};
+ghost use Rattle.merge.specs.mirror.Merging.{inside, kids, copyOf, equalRule, armRule, rule, stepOf, stepOut, bothOk, mergeOf, joinOf};
+
+// Places and numbers of rows stay below this; a part has at most 512 words.
+const FAR: usize = 65536;
+
+// How far a copy or a merge came: the places behind what it read on either side, and behind what it wrote. `ok`: it is whole.
+pub struct Merged {
+    pub ok: bool,
+    pub a: usize,
+    pub b: usize,
+    pub at: usize,
+}
+
+// Whether there is a merge, and the place behind it.
+pub struct Joined {
+    pub ok: bool,
+    pub at: usize,
+}
+
+// The rule that two rows fall under, the places behind them, and the rows that remain.
+struct Step {
+    rule: u8,
+    a: usize,
+    b: usize,
+    at: usize,
+    left: usize,
+}
+
+// A row remains, and no place or number is so large that a sum could wrap.
+fn inside(left: usize, a: usize, b: usize, at: usize) -> bool
+    ensures { λ r. ⌜ r ≡ inside left a b at ⌝ }
+{
+    (0 < left) & (left < FAR) & (a < FAR) & (b < FAR) & (at < FAR)
+}
+
+// One of two numbers, without a branch in the caller.
+fn pick(b: bool, x: u8, y: u8) -> u8
+    ensures { λ r. ⌜ r ≡ cond b x y ⌝ }
+{
+    if b { x } else { y }
+}
+
+// How many parts or arm lists follow a row and belong to it: an arm has its part and the arms behind it.
+fn kids(w: u16) -> u8
+    ensures { λ r. ⌜ (r ≡ kids w) × (r ≤ 2) ⌝ }
+{
+    let k = w % 8;
+    pick(k == 2, 2, pick((k == 3) | (k == 5) | (k == 6), 1, 0))
+}
+
+// Copies the part or arm list at `a`. `ok`: the one at `b` is the same type throughout. With b = a it is a plain copy.
+pub fn copy(src: &[u16], a: usize, b: usize, out: &mut [u16], at: usize, left: usize) -> Merged
+    ensures { λ r. ⌜ (r ≡ copyOf left (now (src .entry)) a b (now (out .entry)) at .res)
+        × (now (out .exit) ≡ copyOf left (now (src .entry)) a b (now (out .entry)) at .out) ⌝ }
+{
+    if !inside(left, a, b, at) {
+        return Merged {
+            ok: false,
+            a: a,
+            b: b,
+            at: at,
+        };
+    }
+    let mut x = a;
+    let mut y = b;
+    let mut t = at;
+    let mut alike = true;
+    // parts and arm lists that are still to come
+    let mut owed: usize = 1;
+    let mut more = left;
+    while (0 < owed) & (0 < more) {
+        let w = words::peek(src, x);
+        let v = words::peek(src, y);
+        alike = alike & (w == v);
+        words::poke(out, t, w);
+        owed = owed - 1 + kids(w) as usize;
+        x += 1;
+        y += 1;
+        t += 1;
+        more -= 1;
+    }
+    Merged {
+        ok: alike & (owed == 0),
+        a: x,
+        b: y,
+        at: t,
+    }
+}
+
+// The rule of two rows that have one word, by its kind.
+fn equal_rule(k: u16) -> u8
+    ensures { λ r. ⌜ r ≡ equalRule k ⌝ }
+{
+    pick(k == 2, 6, pick(k == 5, 3, pick((k == 3) | (k == 6), 2, 1)))
+}
+
+// Two rows of different words merge only in arm lists, where the lower label goes first and the mark behind the last arm goes last.
+fn arm_rule(x: u16, y: u16) -> u8
+    ensures { λ r. ⌜ r ≡ armRule x y ⌝ }
+{
+    let k = x % 8;
+    let j = y % 8;
+    pick(
+        (k == 2) & ((j == 1) | (j == 2) & (x < y)),
+        4,
+        pick((j == 2) & ((k == 1) | (k == 2)), 5, 0),
+    )
+}
+
+// 0 no merge; 1 a row without children; 2 one child each (Loop, Receive); 3 two Sends; 4 an arm that only the first side has; 5 only
+// the second; 6 an arm of both.
+fn rule_of(x: u16, y: u16) -> u8
+    ensures { λ r. ⌜ r ≡ rule x y ⌝ }
+{
+    pick(x == y, equal_rule(x % 8), arm_rule(x, y))
+}
+
+fn pick_word(b: bool, x: u16, y: u16) -> u16
+    ensures { λ r. ⌜ r ≡ cond b x y ⌝ }
+{
+    if b { x } else { y }
+}
+
+// The rule of the rows at `a` and `b`. The merge's own row is written: it is the second side's where only that side has the arm.
+fn first_rows(src: &[u16], a: usize, b: usize, out: &mut [u16], at: usize, left: usize) -> Step
+    ensures { λ r. ⌜ (r ≡ stepOf left (now (src .entry)) a b at)
+        × (now (out .exit) ≡ stepOut left (now (src .entry)) a b (now (out .entry)) at) × (0 < r .rule → r .left < left) ⌝ }
+{
+    if !inside(left, a, b, at) {
+        return Step {
+            rule: 0,
+            a: a,
+            b: b,
+            at: at,
+            left: left,
+        };
+    }
+    let x = words::peek(src, a);
+    let y = words::peek(src, b);
+    let rule = rule_of(x, y);
+    words::poke(out, at, pick_word(rule == 5, y, x));
+    Step {
+        rule: rule,
+        a: a + 1,
+        b: b + 1,
+        at: at + 1,
+        left: left - 1,
+    }
+}
+
+// What a second walk answers: ok only if the first was.
+fn both_ok(ok: bool, m: Merged) -> Merged
+    ensures { λ r. ⌜ r ≡ bothOk ok m ⌝ }
+{
+    Merged {
+        ok: ok & m.ok,
+        a: m.a,
+        b: m.b,
+        at: m.at,
+    }
+}
+
+// Merges the part or arm list at `a` with the one at `b`, one level of branches a call, by the rule of the first rows (`rule_of`). Arms
+// stand in rising label order on both sides, and so they do in the merge. `left` falls, so the calls end.
+pub fn merge(src: &[u16], a: usize, b: usize, out: &mut [u16], at: usize, left: usize) -> Merged
+    ensures { λ r. ⌜ (r ≡ mergeOf left (now (src .entry)) a b (now (out .entry)) at .res)
+        × (now (out .exit) ≡ mergeOf left (now (src .entry)) a b (now (out .entry)) at .out) ⌝ }
+{
+    let s = first_rows(src, a, b, out, at, left);
+    let rule = s.rule;
+    match rule {
+        0 => Merged {
+            ok: false,
+            a: a,
+            b: b,
+            at: at,
+        },
+        1 => Merged {
+            ok: true,
+            a: s.a,
+            b: s.b,
+            at: s.at,
+        },
+        2 => merge(src, s.a, s.b, out, s.at, s.left),
+        3 => copy(src, s.a, s.b, out, s.at, s.left),
+        4 => {
+            let one = copy(src, s.a, s.a, out, s.at, s.left);
+            both_ok(one.ok, merge(src, one.a, b, out, one.at, s.left))
+        }
+        5 => {
+            let one = copy(src, s.b, s.b, out, s.at, s.left);
+            both_ok(one.ok, merge(src, a, one.b, out, one.at, s.left))
+        }
+        _ => {
+            let one = merge(src, s.a, s.b, out, s.at, s.left);
+            both_ok(one.ok, merge(src, one.a, one.b, out, one.at, s.left))
+        }
+    }
+}
+
+// The merge of the parts or arm lists at `a` and `b` of `work` takes the place of the one at `a`; it is made in `spare`. A single arm at
+// `b` whose label is not at `a` is so put in its place among the arms at `a`.
+pub fn join(work: &mut [u16], spare: &mut [u16], a: usize, b: usize, left: usize) -> Joined
+    ensures { λ r. ⌜ (r ≡ joinOf left (now (work .entry)) (now (spare .entry)) a b .res)
+        × (now (work .exit) ≡ joinOf left (now (work .entry)) (now (spare .entry)) a b .work)
+        × (now (spare .exit) ≡ joinOf left (now (work .entry)) (now (spare .entry)) a b .spare) ⌝ }
+{
+    let m = merge(work, a, b, spare, 0, left);
+    let c = copy(spare, 0, 0, work, a, left);
+    Joined {
+        ok: m.ok & c.ok,
+        at: c.at,
+    }
+}
