@@ -38,7 +38,7 @@ module _ (t room₀ room next : List ℕ) (k : ℕ) (f : Filled t room₀ k room
   block-long : length (blockOf t (partOf t k)) ≡ length t
   block-long =
       let a : length next ≡ length (take (k * length t) room ++ blockOf t (partOf t k)) + length (drop (k * length t + length t) room) =
-          rw e (length-append (take (k * length t) room ++ blockOf t (partOf t k)) (drop (k * length t + length t) room)) in
+      rw e (length-append (take (k * length t) room ++ blockOf t (partOf t k)) (drop (k * length t + length t) room)) in
       let b = length-append (take (k * length t) room) (blockOf t (partOf t k)) in
       omega (arith, a, b, same, length-take-le (k * length t) room (omega arith), length-drop (k * length t + length t) room)
 
@@ -47,8 +47,8 @@ module _ (t room₀ room next : List ℕ) (k : ℕ) (f : Filled t room₀ k room
   filled-more = record {
     holds = rw (e, before, behind, add-one k);
     blocks-long =
-      rw (add-one k)
-      (length-append (blocks t k) (blockOf t (partOf t k)) ∙ (rw (f .blocks-long, block-long) (sym (suc-mul k (length t)))));
+        rw (add-one k)
+        (length-append (blocks t k) (blockOf t (partOf t k)) ∙ (rw (f .blocks-long, block-long) (sym (suc-mul k (length t)))));
   }
 
 -- the block of a role below `roles` ends inside the blocks of all

@@ -37,10 +37,10 @@ cond-before n at false h = record { goes-on = λ e rest. refl; stays = λ e rest
 after : (f g : Verdict → Verdict) → Before f → Before g → (b : ℕ) → b ≡ f accepted .number → Dec (b ≡ 0) → Before (λ rest. f (g rest))
 after f g F G b e (yes z) = record {
   goes-on = λ h rest. let fz : f accepted .number ≡ 0 = sym e ∙ z in
-    F .goes-on fz (g rest) ∙ G .goes-on (ap (λ (v : Verdict). v .number) (sym (F .goes-on fz (g accepted))) ∙ h) rest;
+      F .goes-on fz (g rest) ∙ G .goes-on (ap (λ (v : Verdict). v .number) (sym (F .goes-on fz (g accepted))) ∙ h) rest;
   stays = λ h rest. let fz : f accepted .number ≡ 0 = sym e ∙ z in
-    F .goes-on fz (g rest) ∙ (G .stays (λ k. h (ap (λ (v : Verdict). v .number) (F .goes-on fz (g accepted)) ∙ k)) rest
-    ∙ sym (F .goes-on fz (g accepted)));
+      F .goes-on fz (g rest) ∙ (G .stays (λ k. h (ap (λ (v : Verdict). v .number) (F .goes-on fz (g accepted)) ∙ k)) rest
+      ∙ sym (F .goes-on fz (g accepted)));
 }
 after f g F G b e (no n) = record {
   goes-on = λ h rest. absurd (n (e ∙ (ap (λ (v : Verdict). v .number) (sym (F .stays (λ k. n (e ∙ k)) (g accepted))) ∙ h)));

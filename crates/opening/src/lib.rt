@@ -81,7 +81,7 @@ fn fill(table: &[u16], roles: usize, room: &mut [u16])
 // Opens a table: the answer, and the room with every role's part, or as it was.
 pub fn open(table: &[u16], roles: usize, room: &mut [u16]) -> Verdict
     ensures { λ r. ⌜ (r ≡ openOf base (now (table .entry)) roles (length (now (room .entry))))
-      × (now (room .exit) ≡ roomOf base (now (table .entry)) roles (now (room .entry))) ⌝ }
+        × (now (room .exit) ≡ roomOf base (now (table .entry)) roles (now (room .entry))) ⌝ }
 {
     let answer = verdict(table, roles, room.len());
     let number = answer.number;

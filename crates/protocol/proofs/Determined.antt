@@ -1,6 +1,5 @@
 -- The step rules leave nothing open: what a tree comes to by an action is one tree. Assumes nothing.
 use Prim.Native.Nat.{ℕ}
-use mathlib.Core.Logic.{_≢_}
 use mathlib.Core.Path.{_≡_, refl, ap, ap₂}
 use Rattle.table.specs.Tree.{Global, exchange, flight, Arms, arm}
 use Rattle.protocol.specs.Steps.{Action, ArmOf, here, there, Step, rule-1, rule-2, rule-3, rule-4, rule-5, Steps, no-arm, each-arm}

@@ -1,6 +1,9 @@
 pub mod Determined
+pub mod Trap
 pub mod Unrolled
 pub mod Invariant
 pub mod Parts
 pub mod Start
 pub mod Blocks
+pub mod Sessions
+pub mod Demand3

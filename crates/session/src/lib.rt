@@ -2,8 +2,8 @@
 use table::Table;
 
 mod rows;
-mod tables;
 mod state;
+mod tables;
 mod turns;
 
 // Each role's head row, and for each ordered pair of roles (sender x ROLES + receiver) a queue of DEPTH slots, the oldest message in

@@ -33,9 +33,11 @@ loop-again c =
     let was = c .before .before .before .before .before .loop in
     let start = c .before .before .before .before .before .before .before .before in
     let inside = block-inside (start .args .roles) (was .role) (length (start .args .table .now)) (c .before .before .before .before .loop-test .taken) in
-    let same = c .before .before .write-part .kept .1 .1 .1 .0 in
-    (omega arith, same ∙ was .inv .1,
-    filled-more _ _ _ _ _ (was .inv .2) (omega (arith, inside)) (c .before .before .write-part .ensures) same)
+    let same = c .before .before .write-part .kept .1 .1 .1 .0 in (
+      omega arith,
+      same ∙ was .inv .1,
+      filled-more _ _ _ _ _ (was .inv .2) (omega (arith, inside)) (c .before .before .write-part .ensures) same,
+    )
 
 same-length : tie.Need-same-length Inv-loop μ-loop
 same-length c = c .before .loop .inv .1

@@ -42,17 +42,20 @@ first-without-part-requires c κs =
 
 returns-4 : tie.Need-returns-4
 returns-4 c =
-    let s = sizes-kept base _ _ _ (c .before .before .before .before .before .before .sizes .ensures) (c .before .before .before .before .before .if1 .left) in
-    (open-lacking _ _ _ s (c .before .before .before .before .if2 .left) _ (c .before .before .before .rules .ensures) (c .before .before .if3 .left) _
-    (c .before .first-without-part .ensures) (c .if4 .taken), λ e. absurd (omega arith))
+    let s = sizes-kept base _ _ _ (c .before .before .before .before .before .before .sizes .ensures) (c .before .before .before .before .before .if1 .left) in (
+      open-lacking _ _ _ s (c .before .before .before .before .if2 .left) _ (c .before .before .before .rules .ensures) (c .before .before .if3 .left) _
+          (c .before .first-without-part .ensures) (c .if4 .taken),
+      λ e. absurd (omega arith),
+    )
 
 returns-5 : tie.Need-returns-5
 returns-5 c =
-    let s = sizes-kept base _ _ _ (c .before .before .before .before .before .before .sizes .ensures) (c .before .before .before .before .before .if1 .left) in
-    (open-accepted _ _ _ s (c .before .before .before .before .if2 .left) _ (c .before .before .before .rules .ensures) (c .before .before .if3 .left) _
-    (c .before .first-without-part .ensures) (c .if4 .left),
-    λ e. ready _ _ _ s (c .before .before .before .before .if2 .left) _ (c .before .before .before .rules .ensures) (c .before .before .if3 .left) _
-    (c .before .first-without-part .ensures) (c .if4 .left))
+    let s = sizes-kept base _ _ _ (c .before .before .before .before .before .before .sizes .ensures) (c .before .before .before .before .before .if1 .left) in (
+      open-accepted _ _ _ s (c .before .before .before .before .if2 .left) _ (c .before .before .before .rules .ensures) (c .before .before .if3 .left) _
+          (c .before .first-without-part .ensures) (c .if4 .left),
+      λ e. ready _ _ _ s (c .before .before .before .before .if2 .left) _ (c .before .before .before .rules .ensures) (c .before .before .if3 .left) _
+          (c .before .first-without-part .ensures) (c .if4 .left),
+    )
 
 pub verdict-spec : {M : Type 1} → statement M
 verdict-spec =

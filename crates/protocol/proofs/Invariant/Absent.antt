@@ -1,7 +1,7 @@
 -- Machinery of the proof of demand 3: who is in no exchange takes no step, and no step brings it in. Assumes nothing.
 use Prim.Native.Nat.{ℕ, suc}
 use mathlib.Core.List.{List}
-use mathlib.Core.Path.{_≡_, refl}
+use mathlib.Core.Path.{refl}
 use Rattle.table.specs.Tree.{Global, Arms}
 use Rattle.protocol.specs.Steps.{Action, subject, ArmOf, here, there, SomeArm, Step, rule-1, rule-2, rule-3, rule-4, rule-5, Steps, no-arm, each-arm}
 use Rattle.protocol.specs.Unrolled.{close, closeArms, unrolled}

@@ -1,15 +1,15 @@
 -- Machinery of the proof of demand 3: what a row lets its role do, the tree that it covers allows. Assumes nothing.
-use Prim.Native.Nat.{ℕ, zero, suc}
+use Prim.Native.Nat.{ℕ}
 use mathlib.Core.List.{List, _∷_}
 use mathlib.Core.Logic.{_≢_}
-use mathlib.Core.Option.{Option, some}
+use mathlib.Core.Option.{some}
 use mathlib.Core.Path.{_≡_, refl}
 use native.Mathlib.Decide.{ℕ-discrete}
 use Rattle.table.specs.Kept.{HasLabel, has-here, has-there}
 use Rattle.table.specs.Tree.{Global, exchange, flight, Arms, nil, arm}
 use Rattle.session.specs.Head.{ArmAt, find}
-use Rattle.protocol.specs.Steps.{Action, send, receive, ArmOf, here, there, Step, rule-1, rule-2, rule-3, rule-4, rule-5, Steps, no-arm, each-arm}
-use Rattle.protocol.proofs.Invariant.View.{View, v-end, v-send, v-receive, end≢send, end≢receive, send≢receive, same-send, same-receive}
+use Rattle.protocol.specs.Steps.{send, receive, ArmOf, here, there, Step, rule-1, rule-2, rule-3, rule-4, rule-5, Steps, no-arm, each-arm}
+use Rattle.protocol.proofs.Invariant.View.{View, v-send, v-receive, end≢send, end≢receive, send≢receive, same-send, same-receive}
 use Rattle.protocol.proofs.Invariant.Covers.{
   Covers,
   c-zero,
@@ -24,7 +24,7 @@ use Rattle.protocol.proofs.Invariant.Covers.{
   ce-nil,
   ce-arm,
 }
-use Rattle.protocol.proofs.Invariant.Holds.{Holds, h-same, h-over, h-past, h-none, h-quiet, HoldsEach, he-nil, he-arm}
+use Rattle.protocol.proofs.Invariant.Holds.{Holds, h-same, h-over, h-past, HoldsEach, he-arm}
 
 -- a label that some arm has, some arm has first
 arm-or : {A : Type 0} {l k : ℕ} {G : Global A} {cs : Arms A} → Dec (l ≡ k) → (l ≢ k → (H : Global A) × ArmOf l H cs)

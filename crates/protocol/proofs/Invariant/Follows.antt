@@ -1,10 +1,10 @@
 -- Machinery of the proof of demand 3: a step of the tree keeps every row covering it; its subject's row lets the subject take it, and
 -- the head of where that leads covers what is left. Assumes nothing.
-use Prim.Native.Nat.{ℕ, zero, suc}
+use Prim.Native.Nat.{ℕ, suc}
 use mathlib.Core.List.{List}
 use mathlib.Core.Logic.{_≢_}
-use mathlib.Core.Option.{Option, some}
-use mathlib.Core.Path.{_≡_, refl, sym}
+use mathlib.Core.Option.{some}
+use mathlib.Core.Path.{_≡_, refl}
 use Rattle.table.specs.Kept.{HasLabel, has-here, has-there}
 use Rattle.table.specs.Tree.{Global, Arms}
 use Rattle.session.specs.Head.{ArmAt, find}

@@ -1,12 +1,12 @@
 -- Machinery of the proof of demand 3: what a step does to the messages in flight. Another pair's stay, a send puts its message last, a
 -- receive takes the first. Assumes nothing.
-use Prim.Native.Nat.{ℕ, zero, suc}
+use Prim.Native.Nat.{ℕ}
 use mathlib.Core.List.{List, [], _∷_, _++_}
 use mathlib.Core.Logic.{_≢_}
 use mathlib.Core.Path.{_≡_, refl}
 use native.Mathlib.Decide.{ℕ-discrete}
 use native.Mathlib.Omega.{arith}
-use Rattle.table.specs.Kept.{Static, t-end, t-exchange, t-loop, t-back, StaticArms, t-nil, t-arm}
+use Rattle.table.specs.Kept.{t-exchange, t-loop, StaticArms, t-nil, t-arm}
 use Rattle.table.specs.Tree.{Global, exchange, Arms}
 use Rattle.protocol.specs.Steps.{Action, ArmOf, here, there, SomeArm, Step, rule-1, rule-2, rule-3, rule-4, rule-5, Steps, no-arm, each-arm}
 use Rattle.protocol.proofs.Unrolled.{static-unrolled}
@@ -86,7 +86,7 @@ mutual
 same-rest : {B : Type 0} {x y : B} {xs ys : List B} → (x ∷ xs) ≡ (y ∷ ys) → xs ≡ ys
 same-rest e = cc
 
-nil≢cons : {B C : Type 0} {x : B} {xs : List B} → [] ≡ (x ∷ xs) → C
+pub nil≢cons : {B C : Type 0} {x : B} {xs : List B} → [] ≡ (x ∷ xs) → C
 nil≢cons e = let z : _≡_ {A = ℕ} 0 1 = cc in absurd (omega arith)
 
 mutual

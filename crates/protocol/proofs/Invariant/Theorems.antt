@@ -1,9 +1,9 @@
 -- Machinery of the proof of demand 3: what agrees moves exactly as the tree steps, and stays in agreement; no message that is held is
 -- unknown to its receiver; and somebody can move until all have ended. Assumes nothing.
-use Prim.Native.Nat.{ℕ, zero, suc}
+use Prim.Native.Nat.{ℕ, suc}
 use mathlib.Core.List.{List, [], _∷_, _++_}
 use mathlib.Core.Logic.{_≢_, _⊎_, inl, inr}
-use mathlib.Core.Option.{Option, some}
+use mathlib.Core.Option.{some}
 use mathlib.Core.Path.{_≡_, refl}
 use native.Mathlib.Omega.{arith}
 use Rattle.table.specs.Tree.{Global, exchange, flight, loop, Arms, arm}
@@ -13,24 +13,7 @@ use Rattle.protocol.specs.Unrolled.{unrolled}
 use Rattle.protocol.proofs.Invariant.View.{View, v-end, v-receive, Does, of-send, of-receive, same-receive}
 use Rattle.protocol.proofs.Invariant.Covers.{Covers, c-zero, c-gone, c-send, c-receive, c-past, c-get, c-over, c-loop}
 use Rattle.protocol.proofs.Invariant.Holds.{Holds, h-same, h-over, h-past, h-none, h-quiet}
-use Rattle.protocol.proofs.Invariant.Agree.{
-  sender,
-  receiver,
-  message,
-  IsSend,
-  is-send,
-  IsReceive,
-  is-receive,
-  put,
-  put-all,
-  putPair,
-  putPair-all,
-  Config,
-  Moves,
-  m-send,
-  m-receive,
-  Agree,
-}
+use Rattle.protocol.proofs.Invariant.Agree.{sender, receiver, IsSend, is-send, is-receive, put, put-all, putPair, putPair-all, Config, Moves, m-send, m-receive, Agree}
 use Rattle.protocol.proofs.Invariant.Complete.{can-send, can-receive}
 use Rattle.protocol.proofs.Invariant.Follows.{does, subject-covers, others-cover}
 use Rattle.protocol.proofs.Invariant.Queues.{holds-other, holds-send, holds-first, holds-receive}

@@ -1,6 +1,6 @@
 -- The part of a role in a tree is within a part M, said without projection and merge: whatever they give, this is what the proof of
 -- demand 3 uses of it. Assumes nothing.
-use Prim.Native.Nat.{ℕ, suc, _<_}
+use Prim.Native.Nat.{ℕ, suc}
 use mathlib.Core.Logic.{_≢_}
 use mathlib.Core.Path.{_≡_}
 use native.Mathlib.Omega.{arith}

@@ -1,7 +1,7 @@
 -- What merging gives, as a family: one constructor for each of document 01's rules. Everything that is proved of a merge is proved by
 -- induction over it, so that another merge rule is another constructor. Assumes nothing.
 use Prim.Native.Nat.{ℕ}
-use mathlib.Core.Option.{Option, none, some, bind}
+use mathlib.Core.Option.{Option, none, some}
 use mathlib.Core.Path.{_≡_, refl, sym}
 use native.Mathlib.Decide.{ℕ-discrete}
 use Rattle.parts.specs.Part.{Part, p-end, p-send, p-receive, p-loop, p-back, PartArms, p-nil, p-arm, insert, armOf, without}

@@ -1,12 +1,11 @@
 -- The part of a role, as document 01 projects it, fits the tree. Assumes nothing.
-use Prim.Native.Nat.{ℕ, zero, suc, _<_}
+use Prim.Native.Nat.{ℕ, suc}
 use mathlib.Core.Bool.{Bool, true, false, cond, _||_, true≢false}
 use mathlib.Core.Logic.{_≢_}
-use mathlib.Core.Option.{Option, none, some, bind}
+use mathlib.Core.Option.{Option, some, bind}
 use mathlib.Core.Path.{_≡_, refl, sym, _∙_}
-use native.Mathlib.Omega.{arith}
-use lib.Dec.{eqb, leb}
-use borrow.Author.Tests.{eqb-true, eqb-false, leb-true, leb-false, ne-eqb, lt-leb}
+use lib.Dec.{eqb}
+use borrow.Author.Tests.{eqb-true, eqb-false, leb-false, ne-eqb, lt-leb}
 use Rattle.table.specs.Kept.{
   Inside,
   i-end,
@@ -31,15 +30,16 @@ use Rattle.table.specs.Kept.{
   g-arm,
 }
 use Rattle.table.specs.Tree.{Global, end, exchange, flight, loop, back, Arms, nil, arm}
-use Rattle.parts.specs.Part.{Part, p-end, p-send, p-receive, p-loop, p-back, PartArms, p-nil, p-arm, rising}
+use Rattle.table.proofs.Tests.{neither}
+use Rattle.parts.specs.Part.{Part, p-end, p-send, p-receive, p-loop, PartArms, p-nil, p-arm, rising}
 use Rattle.parts.specs.Absent.{takesPart, takesPartArms, leaves, leavesArms}
 use Rattle.parts.specs.Merge.{merge}
-use Rattle.parts.specs.Projection.{mergeFrom, mergeAll, partExchange, part, partArms}
+use Rattle.parts.specs.Projection.{mergeFrom, mergeAll, part, partArms}
 use Rattle.protocol.specs.Steps.{SomeArm, some-arm}
 use Rattle.protocol.proofs.Invariant.Covers.{Absent, a-end, a-exchange, a-flight, a-loop, a-back, AbsentArms, a-nil, a-arm}
 use Rattle.protocol.proofs.Parts.Arms.{none≢some, some-injective, bind-some, At, at-here, at-there, at-rising, rising-at}
 use Rattle.protocol.proofs.Parts.Merged.{merged}
-use Rattle.protocol.proofs.Parts.Within.{_⊑_, within-merge}
+use Rattle.protocol.proofs.Parts.Within.{within-merge}
 use Rattle.protocol.proofs.Parts.Fits.{
   Fits,
   f-end,
@@ -60,22 +60,18 @@ use Rattle.protocol.proofs.Parts.Fits.{
 
 -- ---- the two tests of a loop
 
-or-false : (a b : Bool) → (a || b) ≡ false → (a ≡ false) × (b ≡ false)
-or-false true b e = absurd (true≢false e)
-or-false false b e = (refl, e)
-
 mutual
   unfolding takesPart
 
   pub absent-of : {A : Type 0} (r : ℕ) (G : Global A) → takesPart r G ≡ false → Absent r G
   absent-of r end e = a-end
   absent-of r (exchange p q cs) e =
-      let (pq, c) = or-false (eqb r p || eqb r q) (takesPartArms r cs) e in
-      let (a, b) = or-false (eqb r p) (eqb r q) pq in
+      let (pq, c) = neither (eqb r p || eqb r q) (takesPartArms r cs) e in
+      let (a, b) = neither (eqb r p) (eqb r q) pq in
       a-exchange (eqb-false r p a) (eqb-false r q b) (absent-ofArms r cs c)
   absent-of r (flight p q l v G) e =
-      let (pq, c) = or-false (eqb r p || eqb r q) (takesPart r G) e in
-      let (a, b) = or-false (eqb r p) (eqb r q) pq in
+      let (pq, c) = neither (eqb r p || eqb r q) (takesPart r G) e in
+      let (a, b) = neither (eqb r p) (eqb r q) pq in
       a-flight (eqb-false r p a) (eqb-false r q b) (absent-of r G c)
   absent-of r (loop B) e = a-loop (absent-of r B e)
   absent-of r (back k) e = a-back
@@ -83,7 +79,7 @@ mutual
   absent-ofArms : {A : Type 0} (r : ℕ) (cs : Arms A) → takesPartArms r cs ≡ false → AbsentArms r cs
   absent-ofArms r nil e = a-nil
   absent-ofArms r (arm l G cs) e =
-      let (a, b) = or-false (takesPart r G) (takesPartArms r cs) e in a-arm (absent-of r G a) (absent-ofArms r cs b)
+      let (a, b) = neither (takesPart r G) (takesPartArms r cs) e in a-arm (absent-of r G a) (absent-ofArms r cs b)
 
 mutual
   unfolding takesPart
@@ -112,7 +108,7 @@ mutual
   inside-ofArms : {A : Type 0} (d : ℕ) (cs : Arms A) → leavesArms d cs ≡ false → InsideArms d cs
   inside-ofArms d nil e = i-nil
   inside-ofArms d (arm l G cs) e =
-      let (a, b) = or-false (leaves d G) (leavesArms d cs) e in i-arm (inside-of d G a) (inside-ofArms d cs b)
+      let (a, b) = neither (leaves d G) (leavesArms d cs) e in i-arm (inside-of d G a) (inside-ofArms d cs b)
 
 mutual
   unfolding leaves
@@ -190,7 +186,7 @@ fits-loop {r = r} {B = B} true o t f e =
     let stays : ¬ (Absent r B × Inside 1 B) = λ d. true≢false (sym t ∙ (rw (of-absent (d .0)) (of-inside (d .1)))) in
     rw (← some-injective h) (f-loop stays (f P g))
 fits-loop {r = r} {B = B} false o t f e =
-    let (a, b) = or-false (takesPart r B) (leaves 1 B) t in
+    let (a, b) = neither (takesPart r B) (leaves 1 B) t in
     rw (← some-injective e) (f-gone (absent-of r B a) (inside-of 1 B b))
 
 mutual

@@ -1,19 +1,19 @@
 -- A part never needs more rows than its tree has. Assumes nothing.
-use Prim.Native.Nat.{ℕ, zero, suc, _+_, _≤_, _<_}
+use Prim.Native.Nat.{ℕ, suc, _+_, _≤_}
 use mathlib.Core.Bool.{Bool, true, false, cond, _||_}
-use mathlib.Core.Option.{Option, none, some, bind}
-use mathlib.Core.Path.{_≡_, refl, sym, _∙_, ap}
+use mathlib.Core.Option.{Option, some, bind}
+use mathlib.Core.Path.{_≡_, refl}
 use native.Mathlib.Decide.{ℕ-discrete, decLe}
 use native.Mathlib.Omega.{arith}
 use lib.Dec.{eqb}
 use borrow.Author.Tests.{eq-eqb, ne-eqb, le-leb, lt-leb}
 use Rattle.table.specs.Kept.{rowsIn, rowsInArms}
 use Rattle.table.specs.Tree.{Global, end, exchange, flight, loop, back, Arms, nil, arm}
-use Rattle.parts.specs.Part.{Part, p-end, p-send, p-receive, p-loop, p-back, PartArms, p-nil, p-arm, insert, rising, without}
+use Rattle.parts.specs.Part.{Part, p-end, p-send, p-receive, p-loop, PartArms, p-nil, p-arm, insert, rising, without}
 use Rattle.parts.specs.Absent.{takesPart, leaves}
 use Rattle.parts.specs.Layout.{size, sizeArms}
 use Rattle.parts.specs.Merge.{merge}
-use Rattle.parts.specs.Projection.{mergeFrom, mergeAll, partExchange, part, partArms}
+use Rattle.parts.specs.Projection.{mergeFrom, mergeAll, part, partArms}
 use Rattle.protocol.proofs.Parts.Arms.{none≢some, some-injective, bind-some, At, at-here, at-there, at-armOf}
 use Rattle.protocol.proofs.Parts.Merged.{Merged, m-end, m-send, m-receive, m-loop, m-back, MergedArms, m-rest, m-alone, m-shared, merged}
 

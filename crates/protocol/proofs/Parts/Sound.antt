@@ -1,54 +1,23 @@
 -- What the parts of a table's tree have: peers are other roles, labels are in range and rise, every action has an arm, no loop comes back to
 -- itself without an action, and every back has its loop. Assumes nothing.
-use Prim.Native.Nat.{ℕ, zero, suc, _+_, _≤_, _<_}
+use Prim.Native.Nat.{ℕ, suc, _≤_, _<_}
 use mathlib.Core.Bool.{Bool, true, false, cond, _||_}
 use mathlib.Core.Logic.{_≢_}
-use mathlib.Core.Option.{Option, none, some, bind}
-use mathlib.Core.Path.{_≡_, refl, sym, _∙_, ap}
+use mathlib.Core.Option.{Option, some, bind}
+use mathlib.Core.Path.{_≡_, refl, sym, _∙_}
 use native.Mathlib.Decide.{ℕ-discrete, decLe}
 use native.Mathlib.Omega.{arith}
 use lib.Dec.{eqb}
 use borrow.Author.Tests.{eq-eqb, ne-eqb, le-leb, lt-leb, eqb-true}
-use Rattle.table.specs.Kept.{
-  Inside,
-  i-end,
-  i-exchange,
-  i-flight,
-  i-loop,
-  i-back,
-  InsideArms,
-  i-nil,
-  i-arm,
-  HasLabel,
-  has-here,
-  has-there,
-  Good,
-  g-end,
-  g-exchange,
-  g-flight,
-  g-loop,
-  g-back,
-  GoodArms,
-  g-nil,
-  g-arm,
-  Ranged,
-  r-end,
-  r-exchange,
-  r-flight,
-  r-loop,
-  r-back,
-  RangedArms,
-  r-nil,
-  r-arm,
-}
-use Rattle.table.specs.Tree.{Global, end, exchange, flight, loop, back, Arms, nil, arm}
-use Rattle.parts.specs.Part.{Part, p-end, p-send, p-receive, p-loop, p-back, PartArms, p-nil, p-arm, insert, rising, armOf, without}
+use Rattle.table.specs.Kept.{Inside, i-exchange, i-loop, i-back, InsideArms, i-arm, HasLabel, has-here, has-there, Good, g-end, g-exchange, g-flight, g-loop, g-back, GoodArms, g-nil, g-arm, Ranged, r-exchange, r-loop, RangedArms, r-arm}
+use Rattle.table.specs.Tree.{Global, loop, Arms, nil, arm}
+use Rattle.parts.specs.Part.{Part, p-end, p-send, p-receive, p-loop, p-back, PartArms, p-nil, p-arm, insert, rising, without}
 use Rattle.parts.specs.Absent.{takesPart, leaves}
 use Rattle.parts.specs.Merge.{merge}
-use Rattle.parts.specs.Projection.{mergeFrom, mergeAll, partExchange, part, partArms}
+use Rattle.parts.specs.Projection.{mergeFrom, mergeAll, part, partArms}
 use Rattle.protocol.proofs.Parts.Arms.{none≢some, some-injective, bind-some, At, at-here, at-there, at-armOf}
 use Rattle.protocol.proofs.Parts.Merged.{Merged, m-end, m-send, m-receive, m-loop, m-back, MergedArms, m-rest, m-alone, m-shared, merged}
-use Rattle.protocol.proofs.Parts.Within.{_⊑_, w-end, w-back, w-loop, w-send, w-receive, within-merge}
+use Rattle.protocol.proofs.Parts.Within.{_⊑_, w-back, w-loop, within-merge}
 use Rattle.protocol.proofs.Parts.Fits.{Fits, f-loop, HeadBack, hb-back, hb-loop, no-return}
 use Rattle.protocol.proofs.Parts.Projected.{projected-fits}
 

@@ -2,11 +2,10 @@
 -- Each of two parts is within their merge. Assumes nothing.
 use Prim.Native.Nat.{ℕ}
 use mathlib.Core.Logic.{_≢_}
-use mathlib.Core.Option.{Option, none, some}
-use mathlib.Core.Path.{_≡_, refl, sym, _∙_, ap}
+use mathlib.Core.Path.{_≡_, sym, _∙_}
 use native.Mathlib.Decide.{ℕ-discrete}
-use Rattle.parts.specs.Part.{Part, p-end, p-send, p-receive, p-loop, p-back, PartArms, p-nil, p-arm, insert, armOf, without}
-use Rattle.protocol.proofs.Parts.Arms.{none≢some, some-injective, At, at-here, at-there, armOf-at, one-part, at-insert, at-insert-other, at-without}
+use Rattle.parts.specs.Part.{Part, p-end, p-send, p-receive, p-loop, p-back, PartArms, p-nil, p-arm, insert, without}
+use Rattle.protocol.proofs.Parts.Arms.{none≢some, some-injective, At, at-here, at-there, armOf-at, at-insert, at-insert-other, at-without}
 use Rattle.protocol.proofs.Parts.Merged.{Merged, m-end, m-send, m-receive, m-loop, m-back, MergedArms, m-rest, m-alone, m-shared}
 
 infix 4 _⊑_

@@ -1,11 +1,11 @@
 -- Machinery of the proof of demand 3, T4: where a block stands for a part that fits the tree, the head of row 0 covers the tree, for
 -- every number of actions. Assumes nothing.
-use Prim.Native.Nat.{ℕ, zero, suc, _+_, _≤_, _<_}
+use Prim.Native.Nat.{ℕ, zero, suc, _≤_, _<_}
 use mathlib.Core.List.{List, [], _∷_}
-use mathlib.Core.Path.{_≡_, refl, _∙_, ap}
+use mathlib.Core.Path.{_∙_, ap}
 use native.Mathlib.Omega.{arith}
 use lib.ListN.{length}
-use Rattle.table.specs.Kept.{Inside, i-end, i-exchange, i-flight, i-loop, i-back, InsideArms, i-nil, i-arm, HasLabel, has-here, has-there}
+use Rattle.table.specs.Kept.{Inside, i-exchange, i-loop, InsideArms, i-nil, i-arm, HasLabel, has-here, has-there}
 use Rattle.table.specs.Tree.{Global, loop, back, Arms}
 use Rattle.parts.specs.Part.{Part, p-loop, PartArms}
 use Rattle.session.specs.Head.{ArmAt}
@@ -13,24 +13,7 @@ use Rattle.protocol.specs.Steps.{SomeArm, some-arm}
 use Rattle.protocol.specs.Unrolled.{nth, backTo, close, closeArms, unrolled}
 use Rattle.protocol.proofs.Unrolled.{Each, each-nil, each-cons, close-inside, close-close, inside-close}
 use Rattle.protocol.proofs.Invariant.View.{View}
-use Rattle.protocol.proofs.Invariant.Covers.{
-  Absent,
-  a-end,
-  a-loop,
-  Covers,
-  c-zero,
-  c-gone,
-  c-send,
-  c-receive,
-  c-past,
-  c-loop,
-  CoversArms,
-  ca-nil,
-  ca-arm,
-  CoversEach,
-  ce-nil,
-  ce-arm,
-}
+use Rattle.protocol.proofs.Invariant.Covers.{a-end, a-loop, Covers, c-zero, c-gone, c-send, c-receive, c-past, c-loop, CoversArms, ca-nil, ca-arm, CoversEach, ce-nil, ce-arm}
 use Rattle.protocol.proofs.Parts.Fits.{
   Fits,
   f-end,
@@ -51,23 +34,7 @@ use Rattle.protocol.proofs.Parts.Fits.{
   hb-loop,
   no-return,
 }
-use Rattle.protocol.proofs.Start.Encodes.{
-  Nth,
-  n-here,
-  n-there,
-  Encodes,
-  e-end,
-  e-send,
-  e-receive,
-  e-loop,
-  e-back,
-  EncodesArms,
-  ea-nil,
-  ea-arm,
-  Heads,
-  found-row,
-  found-arm,
-}
+use Rattle.protocol.proofs.Start.Encodes.{Nth, n-here, n-there, Encodes, e-end, e-send, e-receive, e-loop, e-back, EncodesArms, Heads, found-row, found-arm}
 
 label-close : {A : Type 0} {l : ℕ} {cs : Arms A} (d : ℕ) (σ : List (Global A)) → HasLabel l cs → HasLabel l (closeArms cs d σ)
 unfolding close

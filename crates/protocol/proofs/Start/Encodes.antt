@@ -2,8 +2,8 @@
 use Prim.Native.Nat.{ℕ, suc}
 use mathlib.Core.List.{List, [], _∷_}
 use mathlib.Core.Logic.{_≢_}
-use mathlib.Core.Option.{Option, none, some}
-use mathlib.Core.Path.{_≡_, refl, sym, _∙_}
+use mathlib.Core.Option.{some}
+use mathlib.Core.Path.{_≡_, sym, _∙_}
 use native.Mathlib.Decide.{ℕ-discrete}
 use borrow.Author.Tests.{eq-eqb, ne-eqb}
 use Rattle.parts.specs.Part.{Part, p-end, p-send, p-receive, p-loop, p-back, PartArms, p-nil, p-arm}
@@ -45,7 +45,7 @@ pub record Heads (view : ℕ → View) (head : ℕ → ℕ) : Type 0 where
 
 -- ---- the arm of a label, in the part and in the rows
 
-find-here : (l k x : ℕ) (arms : List ArmAt) → l ≡ k → find l (armAt k x ∷ arms) ≡ some x
+pub find-here : (l k x : ℕ) (arms : List ArmAt) → l ≡ k → find l (armAt k x ∷ arms) ≡ some x
 unfolding find
 find-here l k x arms e = rw (eq-eqb l k e)
 
