@@ -23,7 +23,7 @@ use Rattle.merge.specs.declared.Joined.{Joined}
 use Rattle.parts.proofs.Rising.{holds-some, Lacks, insert-is, rising-is, rising-labels, merge-rising}
 use Rattle.parts.proofs.Sizes.{words-twice, merge-size}
 use Rattle.projection.proofs.Join.{answer, Joins}
-use Rattle.projection.proofs.Laws.{rising-size, part-size, parts-size, part-rising, parts-rising, labels-kept}
+use Rattle.parts.proofs.Laws.{rising-size, part-size, parts-size, part-rising, parts-rising, labels-kept}
 
 -- ---- the stack
 

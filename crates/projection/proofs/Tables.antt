@@ -27,7 +27,7 @@ use Rattle.projection.specs.declared.Projected.{Projected}
 use Rattle.parts.proofs.Rising.{holds-some}
 use Rattle.parts.proofs.Lengths.{length-block}
 use Rattle.projection.proofs.Join.{between}
-use Rattle.projection.proofs.Laws.{part-size}
+use Rattle.parts.proofs.Laws.{part-size}
 
 -- a tree of so few rows has small depths
 mutual

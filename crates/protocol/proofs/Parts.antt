@@ -4,4 +4,3 @@ pub mod Within
 pub mod Fits
 pub mod Projected
 pub mod Sound
-pub mod Size

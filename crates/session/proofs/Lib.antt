@@ -4,3 +4,8 @@ pub mod Good
 pub mod Mirrored
 pub mod Queues
 pub mod Turning
+pub mod Sound
+pub mod Judging
+pub mod Sets
+pub mod Acting
+pub mod Calling

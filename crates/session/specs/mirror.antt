@@ -2,3 +2,4 @@ pub mod Rows
 pub mod Tables
 pub mod State
 pub mod Turns
+pub mod Judged

@@ -2,9 +2,17 @@
 use table::Table;
 
 mod rows;
-mod state;
 mod tables;
+mod state;
 mod turns;
+mod calls;
+
+use turns::Turn;
+
+ghost use mathlib.Core.Path.{_≡_};
+ghost use Rattle.table.specs.Limits.{base};
+ghost use Rattle.session.specs.Calls.{freshOf, sendOf, receiveOf};
+ghost use Rattle.session.specs.Awaited.{awaitedOf};
 
 // Each role's head row, and for each ordered pair of roles (sender x ROLES + receiver) a queue of DEPTH slots, the oldest message in
 // the first.
@@ -23,6 +31,72 @@ impl Session {
     pub const DEPTH: usize = 4;
 
     pub const SLOTS: usize = 256;
+
+    // Every role at the head of row 0, the queues empty.
+    pub fn fresh(tables: &[u16], roles: usize) -> Answer
+        ensures { λ r. ⌜ r ≡ freshOf base (now (tables .entry)) roles ⌝ }
+    {
+        let rows = tables::rows_of(tables, roles);
+        if rows == 0 {
+            let nothing = Session { heads: [0u16; 8], counts: [0u8; 64], labels: [0u8; 256], payloads: [0u32; 256] };
+            return Answer { number: Answer::TABLES, label: 0, payload: 0, state: nothing };
+        }
+        let heads = calls::first_heads(tables, roles, rows);
+        let state = Session { heads: heads, counts: [0u8; 64], labels: [0u8; 256], payloads: [0u32; 256] };
+        Answer { number: Answer::ACCEPTED, label: 0, payload: 0, state: state }
+    }
+
+    // The sender sends the label with the payload to the receiver, and moves to the head of that arm's continuation.
+    pub fn send(mut self, tables: &[u16], roles: usize, sender: usize, receiver: usize, label: usize, payload: u32) -> Answer
+        ensures { λ r. ⌜ r ≡ sendOf base (now (tables .entry)) roles sender receiver label payload self ⌝ }
+    {
+        let turn = calls::judge_send(tables, roles, sender, receiver, label, &self.heads, &self.counts, &self.labels, &self.payloads);
+        match turn {
+            Turn::Refused(number) => Answer { number: number, label: 0, payload: 0, state: self },
+            Turn::To(head) => {
+                let pair = sender * Session::ROLES + receiver;
+                let count = self.counts[pair];
+                let free = pair * Session::DEPTH + state::wide(count);
+                self.labels[free] = label as u8;
+                self.payloads[free] = payload;
+                self.counts[pair] = count + 1;
+                self.heads[sender] = head;
+                Answer { number: Answer::ACCEPTED, label: 0, payload: 0, state: self }
+            }
+        }
+    }
+
+    // The receiver takes the oldest message from the sender, and moves to the head of that arm's continuation.
+    pub fn receive(mut self, tables: &[u16], roles: usize, sender: usize, receiver: usize) -> Answer
+        ensures { λ r. ⌜ r ≡ receiveOf base (now (tables .entry)) roles sender receiver self ⌝ }
+    {
+        let turn = calls::judge_receive(tables, roles, sender, receiver, &self.heads, &self.counts, &self.labels, &self.payloads);
+        match turn {
+            Turn::Refused(number) => Answer { number: number, label: 0, payload: 0, state: self },
+            Turn::To(head) => {
+                let pair = sender * Session::ROLES + receiver;
+                let ls = state::labels_of(&self.labels, pair);
+                let ps = state::payloads_of(&self.payloads, pair);
+                state::put_labels(&mut self.labels, pair, [ls[1], ls[2], ls[3], 0]);
+                state::put_payloads(&mut self.payloads, pair, [ps[1], ps[2], ps[3], 0]);
+                self.counts[pair] = self.counts[pair] - 1;
+                self.heads[receiver] = head;
+                Answer { number: Answer::ACCEPTED, label: ls[0], payload: ps[0], state: self }
+            }
+        }
+    }
+
+    // The roles that have a call which would be accepted.
+    pub fn awaited(self, tables: &[u16], roles: usize) -> Awaiting
+        ensures { λ r. ⌜ r ≡ awaitedOf base (now (tables .entry)) roles self ⌝ }
+    {
+        let ground = calls::standing(tables, roles, &self.heads, &self.counts, &self.labels, &self.payloads);
+        if ground.number != Answer::ACCEPTED {
+            return Awaiting { number: ground.number, set: 0, count: 0, lowest: Awaiting::NOBODY, state: self };
+        }
+        let set = calls::awaited_set(tables, roles, ground.rows, &self.heads, &self.counts, &self.labels, &self.payloads);
+        Awaiting { number: Answer::ACCEPTED, set: set, count: u8::count_ones(set), lowest: u8::trailing_zeros(set), state: self }
+    }
 }
 
 // What fresh, send and receive hand back: the number, the label and payload of an accepted receive (else 0), the state.
@@ -43,6 +117,8 @@ pub struct Awaiting {
 }
 
 impl Answer {
+    pub const ACCEPTED: u8 = 0;
+
     pub const TABLES: u8 = 12;
 
     pub const STATE: u8 = 13;
@@ -58,4 +134,9 @@ impl Answer {
     pub const EMPTY: u8 = 18;
 
     pub const STRAY: u8 = 19;
+}
+
+impl Awaiting {
+    // No role is the lowest.
+    pub const NOBODY: u32 = 8;
 }

@@ -1,11 +1,13 @@
 // Rule 13: a state that is well formed. The state's arrays are lent, since the state is large.
+use table::Table;
 use crate::Session;
 use crate::rows;
-use table::Table;
+
 ghost use mathlib.Core.Path.{_≡_};
 ghost use mathlib.Core.Bool.{Bool, _&&_, cond};
 ghost use Prim.Native.Nat.{ℕ, _+_, _*_, _<_, _≤_};
 ghost use lib.ListN.{getD};
+ghost use lib.Seq.{sets};
 ghost use lib.Dec.{ltb, eqb};
 ghost use Rattle.words.specs.Below.{every};
 ghost use Rattle.table.specs.Limits.{base};
@@ -28,14 +30,7 @@ pub fn wide(x: u8) -> usize
 }
 
 // A present role stands on a Send, Receive or End of its block; the place of an absent one is 0.
-fn head_good(
-    tables: &[u16],
-    roles: usize,
-    rows: usize,
-    start: usize,
-    role: usize,
-    head: u16,
-) -> bool
+fn head_good(tables: &[u16], roles: usize, rows: usize, start: usize, role: usize, head: u16) -> bool
     ensures { λ r. ⌜ r ≡ headGoodAt (now (tables .entry)) roles rows start role head ⌝ }
 {
     if role < roles {
@@ -78,12 +73,31 @@ pub fn payloads_of(payloads: &[u32; 256], pair: usize) -> [u32; 4]
     ensures { λ r. ⌜ r ≡ four (now (payloads .entry)) (pair * 4) ⌝ }
 {
     let at = pair * Session::DEPTH;
-    [
-        payloads[at],
-        payloads[at + 1],
-        payloads[at + 2],
-        payloads[at + 3],
-    ]
+    [payloads[at], payloads[at + 1], payloads[at + 2], payloads[at + 3]]
+}
+
+// One pair's four labels, put back.
+pub fn put_labels(labels: &mut [u8; 256], pair: usize, slots: [u8; 4])
+    requires { ⌜ pair < 64 ⌝ }
+    ensures { λ _. ⌜ now (labels .exit) ≡ sets (now (labels .entry)) (pair * 4 + 0) (four slots 0) ⌝ }
+{
+    let at = pair * Session::DEPTH;
+    labels[at] = slots[0];
+    labels[at + 1] = slots[1];
+    labels[at + 2] = slots[2];
+    labels[at + 3] = slots[3];
+}
+
+// One pair's four payloads, put back.
+pub fn put_payloads(payloads: &mut [u32; 256], pair: usize, slots: [u32; 4])
+    requires { ⌜ pair < 64 ⌝ }
+    ensures { λ _. ⌜ now (payloads .exit) ≡ sets (now (payloads .entry)) (pair * 4 + 0) (four slots 0) ⌝ }
+{
+    let at = pair * Session::DEPTH;
+    payloads[at] = slots[0];
+    payloads[at + 1] = slots[1];
+    payloads[at + 2] = slots[2];
+    payloads[at + 3] = slots[3];
 }
 
 // A slot in use holds a label; an unused slot is 0.
@@ -97,14 +111,7 @@ fn slot_good(count: u8, slot: u8, label: u8, payload: u32) -> bool
     }
 }
 
-fn queue_good<'a>(
-    roles: usize,
-    sender: usize,
-    receiver: usize,
-    counts: &'a [u8; 64],
-    labels: &'a [u8; 256],
-    payloads: &'a [u32; 256],
-) -> bool
+fn queue_good<'a>(roles: usize, sender: usize, receiver: usize, counts: &'a [u8; 64], labels: &'a [u8; 256], payloads: &'a [u32; 256]) -> bool
     requires { ⌜ (sender < 8) × (receiver < 8) ⌝ }
     ensures { λ r. ⌜ r ≡ queueGood base roles (queues (now (counts .entry)) (now (labels .entry)) (now (payloads .entry))) sender receiver ⌝ }
 {
@@ -121,13 +128,7 @@ fn queue_good<'a>(
     few & (there | (count == 0)) & (first & second & third & fourth)
 }
 
-fn sender_good<'a>(
-    roles: usize,
-    sender: usize,
-    counts: &'a [u8; 64],
-    labels: &'a [u8; 256],
-    payloads: &'a [u32; 256],
-) -> bool
+fn sender_good<'a>(roles: usize, sender: usize, counts: &'a [u8; 64], labels: &'a [u8; 256], payloads: &'a [u32; 256]) -> bool
     requires { ⌜ sender < 8 ⌝ }
     ensures { λ r. ⌜ r ≡ every (λ q. queueGood base roles (queues (now (counts .entry)) (now (labels .entry)) (now (payloads .entry))) sender q) 8 ⌝ }
 {
@@ -141,12 +142,7 @@ fn sender_good<'a>(
     true
 }
 
-fn queues_good<'a>(
-    roles: usize,
-    counts: &'a [u8; 64],
-    labels: &'a [u8; 256],
-    payloads: &'a [u32; 256],
-) -> bool
+fn queues_good<'a>(roles: usize, counts: &'a [u8; 64], labels: &'a [u8; 256], payloads: &'a [u32; 256]) -> bool
     ensures { λ r. ⌜ r ≡ every (λ p. every (λ q. queueGood base roles (queues (now (counts .entry)) (now (labels .entry)) (now (payloads .entry))) p q) 8) 8 ⌝ }
 {
     let mut sender = 0;
@@ -160,15 +156,7 @@ fn queues_good<'a>(
 }
 
 // The one test of rule 13, for blocks of that many rows.
-pub fn state_good<'a>(
-    tables: &[u16],
-    roles: usize,
-    rows: usize,
-    heads: &'a [u16; 8],
-    counts: &'a [u8; 64],
-    labels: &'a [u8; 256],
-    payloads: &'a [u32; 256],
-) -> bool
+pub fn state_good<'a>(tables: &[u16], roles: usize, rows: usize, heads: &'a [u16; 8], counts: &'a [u8; 64], labels: &'a [u8; 256], payloads: &'a [u32; 256]) -> bool
     requires { ⌜ (rows ≡ blockRows (now tables) roles) × (rows ≤ 256) ⌝ }
     ensures { λ r. ⌜ r ≡ stateGood base (now (tables .entry)) roles (stateOf (now (heads .entry)) (now (counts .entry)) (now (labels .entry)) (now (payloads .entry))) ⌝ }
 {

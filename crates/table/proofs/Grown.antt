@@ -13,7 +13,7 @@ use Rattle.table.specs.Above.{times, namer, over, above}
 use Rattle.table.specs.Tree.{Global, end, exchange, loop, back, Arms, nil, arm, growTree, growArms, growNext, treeAt, chainAt, treeOf}
 use Rattle.table.specs.mirror.Names.{nearLink, farLink}
 use Rattle.table.proofs.Accepted.{Obeys}
-use Rattle.table.proofs.Links.{Link, exchange-link, arm-link, loop-link, named-once, namer-is, namer-names, near-named, far-named, named-by, goes-up}
+use Rattle.table.proofs.Links.{Link, exchange-link, arm-link, loop-link, named-once, namer-is, namer-names, near-named, far-named, named-by, leads}
 use Rattle.table.proofs.Rows.{arm-row}
 use Rattle.table.proofs.Sizes.{measured}
 use Rattle.table.proofs.Walk.{over-more}
@@ -67,7 +67,7 @@ module _ {A : Type 0} (lim : Limits) (t : List ℕ) (roles : ℕ) (o : Obeys lim
   at-arms i tree chain l p q Other e x = absurd (true≢false (sym x))
 
   -- as many links may be followed as there are rows from i on, so none is cut
-  grown : (n : ℕ) → ((i : ℕ) → i < rowsOf t → rowsOf t ≤ n + i → isArm (row t i) ≡ false → P i (treeAt n t i))
+  pub grown : (n : ℕ) → ((i : ℕ) → i < rowsOf t → rowsOf t ≤ n + i → isArm (row t i) ≡ false → P i (treeAt n t i))
       × ((i : ℕ) → i < rowsOf t → rowsOf t ≤ n + i → isArm (row t i) ≡ true → Q i (chainAt n t i))
   unfolding treeAt
   grown zero = (λ i l h x. absurd (omega arith), λ i l h x. absurd (omega arith))
@@ -106,10 +106,14 @@ over-zero zero t = refl
 over-zero (suc n) t = refl
 
 module _ (lim : Limits) (t : List ℕ) (roles : ℕ) (o : Obeys lim t roles) where
+  -- every link of a row goes to a higher row inside the table
+  pub links-up : (i j : ℕ) → i < rowsOf t → 0 < j → 0 < times j (links (row t i)) → (i < j) × (j < rowsOf t)
+  links-up i j l h n = leads t i j (row t i) h (o .links i l) (named-by j (row t i) h n)
+
   pub namer-below : (i : ℕ) → 0 < i → i < rowsOf t → (namer t i < rowsOf t) × (namer t i < i)
   namer-below i h l =
       let (p, n) = namer-names t i (named-once t i h (o .once i l)) in
-      (p, goes-up t (namer t i) i (row t (namer t i)) h (o .links (namer t i) p) (named-by i (row t (namer t i)) h n))
+      (p, links-up (namer t i) i p h n .0)
 
   -- more steps than rows add nothing
   over-enough : (n m i : ℕ) → i < rowsOf t → i ≤ n → i ≤ m → over n t i ≡ over m t i

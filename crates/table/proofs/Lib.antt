@@ -13,3 +13,4 @@ pub mod Grown
 pub mod Trees
 pub mod Size
 pub mod Claims
+pub mod Rowwise

@@ -96,17 +96,19 @@ named-by i r h l = go (eqb i (nearLink r)) refl (eqb i (farLink r)) refl (rw (ti
     go false e true f g = inr (eqb-true i (farLink r) f)
     go false e false f g = absurd (omega arith)
 
--- a link that rule 6 allows goes up
-pub goes-up : (t : List ℕ) (p i : ℕ) (r : Row) → 0 < i → linkBroken t p r ≡ false → (i ≡ nearLink r) ⊎ (i ≡ farLink r) → p < i
-goes-up t p i (End a b c) h e (inl q) = absurd (omega arith)
-goes-up t p i (End a b c) h e (inr q) = absurd (omega arith)
-goes-up t p i (Exchange s r f) h e (inl q) = rw q (exchange-link t p s r f e .up)
-goes-up t p i (Exchange s r f) h e (inr q) = absurd (omega arith)
-goes-up t p i (Arm l c n) h e (inl q) = rw q (arm-link t p l c n e .1 .up)
-goes-up t p i (Arm l c n) h e (inr q) = ⊎-elim (λ z. absurd (omega arith)) (λ m. rw q (m .up)) (arm-link t p l c n e .2)
-goes-up t p i (Loop b x y) h e (inl q) = rw q (loop-link t p b x y e .up)
-goes-up t p i (Loop b x y) h e (inr q) = absurd (omega arith)
-goes-up t p i (Back d x y) h e (inl q) = absurd (omega arith)
-goes-up t p i (Back d x y) h e (inr q) = absurd (omega arith)
-goes-up t p i Other h e (inl q) = absurd (omega arith)
-goes-up t p i Other h e (inr q) = absurd (omega arith)
+-- a link that rule 6 allows goes up, and stays inside
+pub leads : (t : List ℕ) (p i : ℕ) (r : Row) → 0 < i → linkBroken t p r ≡ false → (i ≡ nearLink r) ⊎ (i ≡ farLink r)
+    → (p < i) × (i < rowsOf t)
+leads t p i (End a b c) h e (inl q) = absurd (omega arith)
+leads t p i (End a b c) h e (inr q) = absurd (omega arith)
+leads t p i (Exchange s r f) h e (inl q) = let k = exchange-link t p s r f e in rw q (k .up, k .inside)
+leads t p i (Exchange s r f) h e (inr q) = absurd (omega arith)
+leads t p i (Arm l c n) h e (inl q) = let k = arm-link t p l c n e .1 in rw q (k .up, k .inside)
+leads t p i (Arm l c n) h e (inr q) =
+    ⊎-elim (λ z. absurd (omega arith)) (λ k. rw q (k .up, k .inside)) (arm-link t p l c n e .2)
+leads t p i (Loop b x y) h e (inl q) = let k = loop-link t p b x y e in rw q (k .up, k .inside)
+leads t p i (Loop b x y) h e (inr q) = absurd (omega arith)
+leads t p i (Back d x y) h e (inl q) = absurd (omega arith)
+leads t p i (Back d x y) h e (inr q) = absurd (omega arith)
+leads t p i Other h e (inl q) = absurd (omega arith)
+leads t p i Other h e (inr q) = absurd (omega arith)

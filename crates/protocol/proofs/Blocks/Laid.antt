@@ -8,6 +8,7 @@ use lib.Seq.{getD-append-add}
 use Rattle.words.specs.Rows.{word}
 use Rattle.parts.specs.Part.{Part, p-end, p-send, p-receive, p-loop, p-back, PartArms, p-nil, p-arm}
 use Rattle.parts.specs.Layout.{size, sizeArms, four, nextArm, layout, layoutArms}
+use Rattle.parts.proofs.Lengths.{length-layout}
 use Rattle.session.specs.Block.{PartRow, End, Arm, Loop, Back, Send, Receive, partRowOf}
 
 -- row i of a list of words
@@ -31,21 +32,6 @@ mutual
     l-arm : {i l : ℕ} {around : List ℕ} {P : Part} {ps : PartArms}
         → row i ≡ Arm l (suc i) (nextArm (suc i + size P) ps) → Laid row (suc i) around P → LaidArms row (suc i + size P) around ps
         → LaidArms row i around (p-arm l P ps)
-
-mutual
-  unfolding layout size
-
-  pub length-layout : (P : Part) (i : ℕ) (around : List ℕ) → length (layout i around P) ≡ size P * 4
-  length-layout p-end i around = refl
-  length-layout (p-send q ps) i around = omega (arith, length-layoutArms ps (suc i) around)
-  length-layout (p-receive q ps) i around = omega (arith, length-layoutArms ps (suc i) around)
-  length-layout (p-loop P) i around = omega (arith, length-layout P (suc i) (i ∷ around))
-  length-layout (p-back k) i around = refl
-
-  length-layoutArms : (ps : PartArms) (i : ℕ) (around : List ℕ) → length (layoutArms i around ps) ≡ sizeArms ps * 4
-  length-layoutArms p-nil i around = refl
-  length-layoutArms (p-arm l P ps) i around =
-      rw length-append (omega (arith, length-layout P (suc i) around, length-layoutArms ps (suc i + size P) around))
 
 row-here : (pre rest : List ℕ) (a b c d i : ℕ) → length pre ≡ i * 4 → rowAt (pre ++ (a ∷ b ∷ c ∷ d ∷ rest)) i ≡ partRowOf a b c d
 row-here pre rest a b c d i e =

@@ -24,9 +24,11 @@ use Rattle.session.specs.Block.{End, partRow, blockRows}
 use Rattle.session.specs.Head.{head}
 use Rattle.session.specs.Tables.{rowGood, tablesGood}
 use Rattle.protocol.proofs.Parts.Sound.{Sound, projected-sound}
-use Rattle.protocol.proofs.Parts.Size.{size-part}
+use Rattle.parts.proofs.Lengths.{length-layout}
+use Rattle.parts.proofs.Rising.{holds-some}
+use Rattle.parts.proofs.Laws.{part-size}
 use Rattle.protocol.proofs.Start.Encodes.{Encodes, Heads}
-use Rattle.protocol.proofs.Blocks.Laid.{rowAt, Laid, laid, length-layout}
+use Rattle.protocol.proofs.Blocks.Laid.{rowAt, Laid, laid}
 use Rattle.protocol.proofs.Blocks.Leads.{around-nil}
 use Rattle.protocol.proofs.Blocks.Good.{rows-good, good-end}
 use Rattle.protocol.proofs.Blocks.Views.{viewOf, heads, encodes}
@@ -101,7 +103,7 @@ place r n i k len e = rw (← e) (omega arith)
 module _ (lim : Limits) (t : List ℕ) (roles : ℕ) (o : Opened lim t roles) (kept : TreeKept lim t roles) where
   pub part-fits : (r : ℕ) (P : Part) → partOf t r ≡ some P → size P ≤ rowsOf t
   unfolding partOf
-  part-fits r P e = omega (arith, size-part r (treeOf t) P e, kept .fits)
+  part-fits r P e = omega (arith, holds-some (part-size r (treeOf t)) e, kept .fits)
 
   pub part-sound : (r : ℕ) (P : Part) → partOf t r ≡ some P → Sound roles (lim .labels) r 0 P
   unfolding partOf

@@ -25,7 +25,7 @@ wide-requires-3 : tie.Need-wide-requires-3
 wide-requires-3 c κs = search needs
 
 returns : tie.Need-returns
-returns c = cc
+returns c = rw (c .wide3 .ensures .0, c .before .word4 .ensures, c .before .before .wide2 .ensures .0, c .before .before .before .word3 .ensures, c .before .before .before .before .wide .ensures .0, c .before .before .before .before .before .word2 .ensures, c .before .before .before .before .before .before .word .ensures)
 
 pub read-spec : {M : Type 1} → statement M
 read-spec =
