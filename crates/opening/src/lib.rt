@@ -2,15 +2,13 @@
 pub mod marked;
 
 ghost use mathlib.Core.Path.{_≡_};
-ghost use mathlib.Core.Bool.{true, not};
+ghost use mathlib.Core.Bool.{not};
 ghost use mathlib.Core.List.{_++_};
-ghost use Prim.Native.Nat.{ℕ, _≤_, _+_, _*_, _<_};
-ghost use lib.ListN.{length, take, drop};
+ghost use Prim.Native.Nat.{_*_};
+ghost use lib.ListN.{length, drop};
 ghost use Rattle.words.specs.Below.{lowest};
 ghost use Rattle.table.specs.Limits.{base};
-ghost use Rattle.table.specs.Rules.{rules};
-ghost use Rattle.table.specs.Check.{checkOf, accepted, sized, tested};
-ghost use Rattle.parts.specs.Layout.{blockOf};
+ghost use Rattle.table.specs.Check.{checkOf, accepted};
 ghost use Rattle.parts.specs.Projection.{partOf, present};
 ghost use Rattle.opening.specs.Opening.{openOf, blocks, roomOf};
 ghost use Rattle.opening.specs.mirror.Ready.{Ready};
@@ -48,10 +46,10 @@ fn verdict(table: &[u16], roles: usize, room: usize) -> Verdict
             place: 0,
         };
     }
-    let rules = table::rules(table, roles);
-    let rule_number = rules.number;
+    let checked = Table::check(table, roles);
+    let rule_number = checked.number;
     if rule_number != Verdict::ACCEPTED {
-        return rules;
+        return checked;
     }
     let role = first_without_part(table, roles);
     if role < roles {

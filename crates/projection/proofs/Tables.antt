@@ -16,7 +16,7 @@ use Rattle.table.specs.Check.{accepted, checkOf}
 use Rattle.table.proofs.Sizes.{measured}
 use Rattle.table.proofs.Accepted.{obeys}
 use Rattle.table.proofs.Trees.{tree-good, tree-static, tree-ranged, tree-inside}
-use Rattle.table.proofs.Size.{tree-rows}
+use Rattle.table.proofs.Weight.{tree-rows}
 use Rattle.parts.specs.Part.{Part}
 use Rattle.parts.specs.Projection.{partOf, present}
 use Rattle.parts.specs.Layout.{size, block, blockOf}

@@ -14,7 +14,7 @@ use Rattle.table.specs.Numbers.{ACCEPTED}
 use Rattle.table.specs.Check.{accepted, checkOf}
 use Rattle.table.specs.Tree.{Global, Arms, treeOf}
 use Rattle.table.proofs.Trees.{tree-static, tree-inside, tree-good, tree-ranged}
-use Rattle.table.proofs.Size.{tree-rows}
+use Rattle.table.proofs.Weight.{tree-rows}
 use Rattle.parts.specs.Projection.{partOf}
 use Rattle.opening.specs.Opening.{openOf, blocks, roomOf}
 use Rattle.session.specs.Block.{partRow, blockRows, isHead}

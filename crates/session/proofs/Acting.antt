@@ -55,12 +55,15 @@ module _ (ts : List ℕ) (roles rows r start : ℕ) (s : Session) {j : ℕ} {w :
       let b = sized-bounds ts roles (blockRows ts roles) (good-sized ts roles good) in
       let low : r < 8 = omega (arith, b .1) in
       let hs = head-stands ts roles s standing r l low in
-      let h = row-holds ts roles good r l (headOf s r) (hs .0) in
-      (low, (
-      (λ k. let g : rowHolds base ts roles r (headOf s r) (Send (w .first) (w .second) (w .third)) ≡ true = rw (head-read, k) at h in
-        let m = send-peer ts roles r (headOf s r) (w .first) (w .second) (w .third) g in omega (arith, b .1, m .0)),
-      (λ k. let g : rowHolds base ts roles r (headOf s r) (Receive (w .first) (w .second) (w .third)) ≡ true = rw (head-read, k) at h in
-        let m = receive-peer ts roles r (headOf s r) (w .first) (w .second) (w .third) g in omega (arith, b .1, m .0))))
+      let h = row-holds ts roles good r l (headOf s r) (hs .0) in (
+        low,
+        (
+          (λ k. let g : rowHolds base ts roles r (headOf s r) (Send (w .first) (w .second) (w .third)) ≡ true = rw (head-read, k) at h in
+              let m = send-peer ts roles r (headOf s r) (w .first) (w .second) (w .third) g in omega (arith, b .1, m .0)),
+          (λ k. let g : rowHolds base ts roles r (headOf s r) (Receive (w .first) (w .second) (w .third)) ≡ true = rw (head-read, k) at h in
+              let m = receive-peer ts roles r (headOf s r) (w .first) (w .second) (w .third) g in omega (arith, b .1, m .0)),
+        ),
+      )
 
 -- ---- the first heads
 

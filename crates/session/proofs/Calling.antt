@@ -67,10 +67,10 @@ module _ (ts : List ℕ) (roles p q : ℕ) (s : Session) where
       let rest = sendTurn base ts (p * blockRows ts roles) (blockRows ts roles) q l (held base s p q) (partRow ts roles p (headOf s p)) in
       send-unless l v 12 (not (tablesGood base ts roles)) _
       ∙ ap (unless 12 (not (tablesGood base ts roles)) s)
-        (send-unless l v 13 (not (stateGood base ts roles s)) _
-        ∙ ap (unless 13 (not (stateGood base ts roles s)) s)
-          (send-unless l v 14 (not (arePair roles p q)) rest
-          ∙ ap (unless 14 (not (arePair roles p q)) s) (send-row l v (partRow ts roles p (headOf s p)))))
+      (send-unless l v 13 (not (stateGood base ts roles s)) _
+      ∙ ap (unless 13 (not (stateGood base ts roles s)) s)
+      (send-unless l v 14 (not (arePair roles p q)) rest
+      ∙ ap (unless 14 (not (arePair roles p q)) s) (send-row l v (partRow ts roles p (headOf s p)))))
 
   abbrev pub afterReceive : Turn → Answer
   afterReceive (Refused n) = answers n s
@@ -104,7 +104,7 @@ module _ (ts : List ℕ) (roles p q : ℕ) (s : Session) where
       rw (arms-at ts roles q f)
       (receive-unless 15 (not (eqb peer p)) _
       ∙ ap (unless 15 (not (eqb peer p)) s)
-        (receive-unless 18 (eqb (held base s p q) 0) _ ∙ ap (unless 18 (eqb (held base s p q) 0) s) (receive-arm o)))
+      (receive-unless 18 (eqb (held base s p q) 0) _ ∙ ap (unless 18 (eqb (held base s p q) 0) s) (receive-arm o)))
   receive-row Other = refl
 
   pub after-receive : afterReceive (receiveJudged base ts roles p q s) ≡ receiveOf base ts roles p q s
@@ -113,10 +113,10 @@ module _ (ts : List ℕ) (roles p q : ℕ) (s : Session) where
       let rest = receiveTurn ts (q * blockRows ts roles) (blockRows ts roles) p (held base s p q) (labelAt base s p q 0) (partRow ts roles q (headOf s q)) in
       receive-unless 12 (not (tablesGood base ts roles)) _
       ∙ ap (unless 12 (not (tablesGood base ts roles)) s)
-        (receive-unless 13 (not (stateGood base ts roles s)) _
-        ∙ ap (unless 13 (not (stateGood base ts roles s)) s)
-          (receive-unless 14 (not (arePair roles p q)) rest
-          ∙ ap (unless 14 (not (arePair roles p q)) s) (receive-row (partRow ts roles q (headOf s q)))))
+      (receive-unless 13 (not (stateGood base ts roles s)) _
+      ∙ ap (unless 13 (not (stateGood base ts roles s)) s)
+      (receive-unless 14 (not (arePair roles p q)) rest
+      ∙ ap (unless 14 (not (arePair roles p q)) s) (receive-row (partRow ts roles q (headOf s q)))))
 
 -- ---- what is known where no test refused the call
 
@@ -272,8 +272,16 @@ four-forward ws i h =
     let e1 : i + 1 ≡ suc i = omega arith in
     let e2 : i + 2 ≡ suc (suc i) = omega arith in
     let e3 : i + 3 ≡ suc (suc (suc i)) = omega arith in
-    rw (add-zero i, drop-cons ws i 0 (omega arith), drop-cons ws (suc i) 0 (omega arith), drop-cons ws (suc (suc i)) 0 (omega arith),
-    drop-cons ws (suc (suc (suc i))) 0 (omega arith), e1, e2, e3)
+    rw (
+      add-zero i,
+      drop-cons ws i 0 (omega arith),
+      drop-cons ws (suc i) 0 (omega arith),
+      drop-cons ws (suc (suc i)) 0 (omega arith),
+      drop-cons ws (suc (suc (suc i))) 0 (omega arith),
+      e1,
+      e2,
+      e3,
+    )
 
 came-forward : (ws : List ℕ) (i : ℕ) {ls : List ℕ} → i + 4 ≤ length ws → ls ≡ four ws i
     → sets ws (i + 0) (getD ls 1 0 ∷ getD ls 2 0 ∷ getD ls 3 0 ∷ 0 ∷ []) ≡ sets ws (i + 0) (forward (take 4 (drop (i + 0) ws)))

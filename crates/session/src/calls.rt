@@ -4,8 +4,8 @@ use crate::Session;
 use crate::rows;
 use crate::state;
 use crate::tables;
-use crate::turns::{self, Turn};
-
+use crate::turns::Turn;
+use crate::turns::{self};
 ghost use mathlib.Core.Path.{_≡_};
 ghost use mathlib.Core.Bool.{true};
 ghost use mathlib.Core.List.{[]};
@@ -26,21 +26,47 @@ pub struct Ground {
     pub rows: usize,
 }
 
-pub fn standing<'a>(tables: &[u16], roles: usize, heads: &'a [u16; 8], counts: &'a [u8; 64], labels: &'a [u8; 256], payloads: &'a [u32; 256]) -> Ground
+pub fn standing<'a>(
+    tables: &[u16],
+    roles: usize,
+    heads: &'a [u16; 8],
+    counts: &'a [u8; 64],
+    labels: &'a [u8; 256],
+    payloads: &'a [u32; 256],
+) -> Ground
     ensures { λ r. ⌜ r ≡ groundOf base (now (tables .entry)) roles (stateOf (now (heads .entry)) (now (counts .entry)) (now (labels .entry)) (now (payloads .entry))) ⌝ }
 {
     let rows = tables::rows_of(tables, roles);
     if rows == 0 {
-        return Ground { number: Answer::TABLES, rows: 0 };
+        return Ground {
+            number: Answer::TABLES,
+            rows: 0,
+        };
     }
     if !state::state_good(tables, roles, rows, heads, counts, labels, payloads) {
-        return Ground { number: Answer::STATE, rows: rows };
+        return Ground {
+            number: Answer::STATE,
+            rows: rows,
+        };
     }
-    Ground { number: Answer::ACCEPTED, rows: rows }
+    Ground {
+        number: Answer::ACCEPTED,
+        rows: rows,
+    }
 }
 
 // Rules 12 to 17.
-pub fn judge_send<'a>(tables: &[u16], roles: usize, sender: usize, receiver: usize, label: usize, heads: &'a [u16; 8], counts: &'a [u8; 64], labels: &'a [u8; 256], payloads: &'a [u32; 256]) -> Turn
+pub fn judge_send<'a>(
+    tables: &[u16],
+    roles: usize,
+    sender: usize,
+    receiver: usize,
+    label: usize,
+    heads: &'a [u16; 8],
+    counts: &'a [u8; 64],
+    labels: &'a [u8; 256],
+    payloads: &'a [u32; 256],
+) -> Turn
     ensures { λ r. ⌜ r ≡ sendJudged base (now (tables .entry)) roles sender receiver label (stateOf (now (heads .entry)) (now (counts .entry)) (now (labels .entry)) (now (payloads .entry))) ⌝ }
 {
     let ground = standing(tables, roles, heads, counts, labels, payloads);
@@ -57,7 +83,16 @@ pub fn judge_send<'a>(tables: &[u16], roles: usize, sender: usize, receiver: usi
 }
 
 // Rules 12 to 15, 18 and 19.
-pub fn judge_receive<'a>(tables: &[u16], roles: usize, sender: usize, receiver: usize, heads: &'a [u16; 8], counts: &'a [u8; 64], labels: &'a [u8; 256], payloads: &'a [u32; 256]) -> Turn
+pub fn judge_receive<'a>(
+    tables: &[u16],
+    roles: usize,
+    sender: usize,
+    receiver: usize,
+    heads: &'a [u16; 8],
+    counts: &'a [u8; 64],
+    labels: &'a [u8; 256],
+    payloads: &'a [u32; 256],
+) -> Turn
     ensures { λ r. ⌜ r ≡ receiveJudged base (now (tables .entry)) roles sender receiver (stateOf (now (heads .entry)) (now (counts .entry)) (now (labels .entry)) (now (payloads .entry))) ⌝ }
 {
     let ground = standing(tables, roles, heads, counts, labels, payloads);
@@ -71,11 +106,27 @@ pub fn judge_receive<'a>(tables: &[u16], roles: usize, sender: usize, receiver: 
     let part = rows::row_at(tables, start, words::wide(heads[receiver]));
     let pair = sender * Session::ROLES + receiver;
     let label = labels[pair * Session::DEPTH];
-    turns::receive_turn(tables, start, ground.rows, part, sender, counts[pair], label)
+    turns::receive_turn(
+        tables,
+        start,
+        ground.rows,
+        part,
+        sender,
+        counts[pair],
+        label,
+    )
 }
 
 // The roles that have a call which would be accepted, over good tables and a good state.
-pub fn awaited_set<'a>(tables: &[u16], roles: usize, rows: usize, heads: &'a [u16; 8], counts: &'a [u8; 64], labels: &'a [u8; 256], payloads: &'a [u32; 256]) -> u8
+pub fn awaited_set<'a>(
+    tables: &[u16],
+    roles: usize,
+    rows: usize,
+    heads: &'a [u16; 8],
+    counts: &'a [u8; 64],
+    labels: &'a [u8; 256],
+    payloads: &'a [u32; 256],
+) -> u8
     requires { ⌜ (rows ≡ blockRows (now tables) roles) × (tablesGood base (now tables) roles ≡ true) × (stateGood base (now tables) roles (stateOf (now heads) (now counts) (now labels) (now payloads)) ≡ true) ⌝ }
     ensures { λ r. ⌜ r ≡ setOf (isAwaited base (now (tables .entry)) roles (stateOf (now (heads .entry)) (now (counts .entry)) (now (labels .entry)) (now (payloads .entry)))) roles ⌝ }
 {

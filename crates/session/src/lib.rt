@@ -1,14 +1,13 @@
 // Sessions over opened tables: the state, and the answers of its calls.
 use table::Table;
 
-mod rows;
-mod tables;
-mod state;
-mod turns;
 mod calls;
+mod rows;
+mod state;
+mod tables;
+mod turns;
 
 use turns::Turn;
-
 ghost use mathlib.Core.Path.{_≡_};
 ghost use Rattle.table.specs.Limits.{base};
 ghost use Rattle.session.specs.Calls.{freshOf, sendOf, receiveOf};
@@ -38,21 +37,64 @@ impl Session {
     {
         let rows = tables::rows_of(tables, roles);
         if rows == 0 {
-            let nothing = Session { heads: [0u16; 8], counts: [0u8; 64], labels: [0u8; 256], payloads: [0u32; 256] };
-            return Answer { number: Answer::TABLES, label: 0, payload: 0, state: nothing };
+            let nothing = Session {
+                heads: [0u16; 8],
+                counts: [0u8; 64],
+                labels: [0u8; 256],
+                payloads: [0u32; 256],
+            };
+            return Answer {
+                number: Answer::TABLES,
+                label: 0,
+                payload: 0,
+                state: nothing,
+            };
         }
         let heads = calls::first_heads(tables, roles, rows);
-        let state = Session { heads: heads, counts: [0u8; 64], labels: [0u8; 256], payloads: [0u32; 256] };
-        Answer { number: Answer::ACCEPTED, label: 0, payload: 0, state: state }
+        let state = Session {
+            heads: heads,
+            counts: [0u8; 64],
+            labels: [0u8; 256],
+            payloads: [0u32; 256],
+        };
+        Answer {
+            number: Answer::ACCEPTED,
+            label: 0,
+            payload: 0,
+            state: state,
+        }
     }
 
     // The sender sends the label with the payload to the receiver, and moves to the head of that arm's continuation.
-    pub fn send(mut self, tables: &[u16], roles: usize, sender: usize, receiver: usize, label: usize, payload: u32) -> Answer
+    pub fn send(
+        mut self,
+        tables: &[u16],
+        roles: usize,
+        sender: usize,
+        receiver: usize,
+        label: usize,
+        payload: u32,
+    ) -> Answer
         ensures { λ r. ⌜ r ≡ sendOf base (now (tables .entry)) roles sender receiver label payload self ⌝ }
     {
-        let turn = calls::judge_send(tables, roles, sender, receiver, label, &self.heads, &self.counts, &self.labels, &self.payloads);
+        let turn = calls::judge_send(
+            tables,
+            roles,
+            sender,
+            receiver,
+            label,
+            &self.heads,
+            &self.counts,
+            &self.labels,
+            &self.payloads,
+        );
         match turn {
-            Turn::Refused(number) => Answer { number: number, label: 0, payload: 0, state: self },
+            Turn::Refused(number) => Answer {
+                number: number,
+                label: 0,
+                payload: 0,
+                state: self,
+            },
             Turn::To(head) => {
                 let pair = sender * Session::ROLES + receiver;
                 let count = self.counts[pair];
@@ -61,7 +103,12 @@ impl Session {
                 self.payloads[free] = payload;
                 self.counts[pair] = count + 1;
                 self.heads[sender] = head;
-                Answer { number: Answer::ACCEPTED, label: 0, payload: 0, state: self }
+                Answer {
+                    number: Answer::ACCEPTED,
+                    label: 0,
+                    payload: 0,
+                    state: self,
+                }
             }
         }
     }
@@ -70,9 +117,23 @@ impl Session {
     pub fn receive(mut self, tables: &[u16], roles: usize, sender: usize, receiver: usize) -> Answer
         ensures { λ r. ⌜ r ≡ receiveOf base (now (tables .entry)) roles sender receiver self ⌝ }
     {
-        let turn = calls::judge_receive(tables, roles, sender, receiver, &self.heads, &self.counts, &self.labels, &self.payloads);
+        let turn = calls::judge_receive(
+            tables,
+            roles,
+            sender,
+            receiver,
+            &self.heads,
+            &self.counts,
+            &self.labels,
+            &self.payloads,
+        );
         match turn {
-            Turn::Refused(number) => Answer { number: number, label: 0, payload: 0, state: self },
+            Turn::Refused(number) => Answer {
+                number: number,
+                label: 0,
+                payload: 0,
+                state: self,
+            },
             Turn::To(head) => {
                 let pair = sender * Session::ROLES + receiver;
                 let ls = state::labels_of(&self.labels, pair);
@@ -81,7 +142,12 @@ impl Session {
                 state::put_payloads(&mut self.payloads, pair, [ps[1], ps[2], ps[3], 0]);
                 self.counts[pair] = self.counts[pair] - 1;
                 self.heads[receiver] = head;
-                Answer { number: Answer::ACCEPTED, label: ls[0], payload: ps[0], state: self }
+                Answer {
+                    number: Answer::ACCEPTED,
+                    label: ls[0],
+                    payload: ps[0],
+                    state: self,
+                }
             }
         }
     }
@@ -90,12 +156,39 @@ impl Session {
     pub fn awaited(self, tables: &[u16], roles: usize) -> Awaiting
         ensures { λ r. ⌜ r ≡ awaitedOf base (now (tables .entry)) roles self ⌝ }
     {
-        let ground = calls::standing(tables, roles, &self.heads, &self.counts, &self.labels, &self.payloads);
+        let ground = calls::standing(
+            tables,
+            roles,
+            &self.heads,
+            &self.counts,
+            &self.labels,
+            &self.payloads,
+        );
         if ground.number != Answer::ACCEPTED {
-            return Awaiting { number: ground.number, set: 0, count: 0, lowest: Awaiting::NOBODY, state: self };
+            return Awaiting {
+                number: ground.number,
+                set: 0,
+                count: 0,
+                lowest: Awaiting::NOBODY,
+                state: self,
+            };
         }
-        let set = calls::awaited_set(tables, roles, ground.rows, &self.heads, &self.counts, &self.labels, &self.payloads);
-        Awaiting { number: Answer::ACCEPTED, set: set, count: u8::count_ones(set), lowest: u8::trailing_zeros(set), state: self }
+        let set = calls::awaited_set(
+            tables,
+            roles,
+            ground.rows,
+            &self.heads,
+            &self.counts,
+            &self.labels,
+            &self.payloads,
+        );
+        Awaiting {
+            number: Answer::ACCEPTED,
+            set: set,
+            count: u8::count_ones(set),
+            lowest: u8::trailing_zeros(set),
+            state: self,
+        }
     }
 }
 

@@ -41,14 +41,29 @@ pub fn row_at(tables: &[u16], start: usize, row: usize) -> Row
 {
     let rows = tables.len() / 4;
     if rows < start {
-        return Row { kind: 0, first: 0, second: 0, third: 0 };
+        return Row {
+            kind: 0,
+            first: 0,
+            second: 0,
+            third: 0,
+        };
     }
     if row < rows - start {
         let at = (start + row) * 4;
-        return Row { kind: tables[at], first: tables[at + 1], second: tables[at + 2], third: tables[at + 3] };
+        return Row {
+            kind: tables[at],
+            first: tables[at + 1],
+            second: tables[at + 2],
+            third: tables[at + 3],
+        };
     }
     if rows - start < row {
-        return Row { kind: 0, first: 0, second: 0, third: 0 };
+        return Row {
+            kind: 0,
+            first: 0,
+            second: 0,
+            third: 0,
+        };
     }
     // The words after the last whole row.
     let at = start + row;
@@ -56,7 +71,12 @@ pub fn row_at(tables: &[u16], start: usize, row: usize) -> Row
     let first = words::word(tables, at, 1);
     let second = words::word(tables, at, 2);
     let third = words::word(tables, at, 3);
-    Row { kind: kind, first: first, second: second, third: third }
+    Row {
+        kind: kind,
+        first: first,
+        second: second,
+        third: third,
+    }
 }
 
 // The row where a role at `row` comes to stand: on through Loop and Back rows, at most as often as the block has rows.

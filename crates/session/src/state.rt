@@ -1,8 +1,7 @@
 // Rule 13: a state that is well formed. The state's arrays are lent, since the state is large.
-use table::Table;
 use crate::Session;
 use crate::rows;
-
+use table::Table;
 ghost use mathlib.Core.Path.{_≡_};
 ghost use mathlib.Core.Bool.{Bool, _&&_, cond};
 ghost use Prim.Native.Nat.{ℕ, _+_, _*_, _<_, _≤_};
@@ -30,7 +29,14 @@ pub fn wide(x: u8) -> usize
 }
 
 // A present role stands on a Send, Receive or End of its block; the place of an absent one is 0.
-fn head_good(tables: &[u16], roles: usize, rows: usize, start: usize, role: usize, head: u16) -> bool
+fn head_good(
+    tables: &[u16],
+    roles: usize,
+    rows: usize,
+    start: usize,
+    role: usize,
+    head: u16,
+) -> bool
     ensures { λ r. ⌜ r ≡ headGoodAt (now (tables .entry)) roles rows start role head ⌝ }
 {
     if role < roles {
@@ -73,7 +79,12 @@ pub fn payloads_of(payloads: &[u32; 256], pair: usize) -> [u32; 4]
     ensures { λ r. ⌜ r ≡ four (now (payloads .entry)) (pair * 4) ⌝ }
 {
     let at = pair * Session::DEPTH;
-    [payloads[at], payloads[at + 1], payloads[at + 2], payloads[at + 3]]
+    [
+        payloads[at],
+        payloads[at + 1],
+        payloads[at + 2],
+        payloads[at + 3],
+    ]
 }
 
 // One pair's four labels, put back.
@@ -111,7 +122,14 @@ fn slot_good(count: u8, slot: u8, label: u8, payload: u32) -> bool
     }
 }
 
-fn queue_good<'a>(roles: usize, sender: usize, receiver: usize, counts: &'a [u8; 64], labels: &'a [u8; 256], payloads: &'a [u32; 256]) -> bool
+fn queue_good<'a>(
+    roles: usize,
+    sender: usize,
+    receiver: usize,
+    counts: &'a [u8; 64],
+    labels: &'a [u8; 256],
+    payloads: &'a [u32; 256],
+) -> bool
     requires { ⌜ (sender < 8) × (receiver < 8) ⌝ }
     ensures { λ r. ⌜ r ≡ queueGood base roles (queues (now (counts .entry)) (now (labels .entry)) (now (payloads .entry))) sender receiver ⌝ }
 {
@@ -128,7 +146,13 @@ fn queue_good<'a>(roles: usize, sender: usize, receiver: usize, counts: &'a [u8;
     few & (there | (count == 0)) & (first & second & third & fourth)
 }
 
-fn sender_good<'a>(roles: usize, sender: usize, counts: &'a [u8; 64], labels: &'a [u8; 256], payloads: &'a [u32; 256]) -> bool
+fn sender_good<'a>(
+    roles: usize,
+    sender: usize,
+    counts: &'a [u8; 64],
+    labels: &'a [u8; 256],
+    payloads: &'a [u32; 256],
+) -> bool
     requires { ⌜ sender < 8 ⌝ }
     ensures { λ r. ⌜ r ≡ every (λ q. queueGood base roles (queues (now (counts .entry)) (now (labels .entry)) (now (payloads .entry))) sender q) 8 ⌝ }
 {
@@ -142,7 +166,12 @@ fn sender_good<'a>(roles: usize, sender: usize, counts: &'a [u8; 64], labels: &'
     true
 }
 
-fn queues_good<'a>(roles: usize, counts: &'a [u8; 64], labels: &'a [u8; 256], payloads: &'a [u32; 256]) -> bool
+fn queues_good<'a>(
+    roles: usize,
+    counts: &'a [u8; 64],
+    labels: &'a [u8; 256],
+    payloads: &'a [u32; 256],
+) -> bool
     ensures { λ r. ⌜ r ≡ every (λ p. every (λ q. queueGood base roles (queues (now (counts .entry)) (now (labels .entry)) (now (payloads .entry))) p q) 8) 8 ⌝ }
 {
     let mut sender = 0;
@@ -156,7 +185,15 @@ fn queues_good<'a>(roles: usize, counts: &'a [u8; 64], labels: &'a [u8; 256], pa
 }
 
 // The one test of rule 13, for blocks of that many rows.
-pub fn state_good<'a>(tables: &[u16], roles: usize, rows: usize, heads: &'a [u16; 8], counts: &'a [u8; 64], labels: &'a [u8; 256], payloads: &'a [u32; 256]) -> bool
+pub fn state_good<'a>(
+    tables: &[u16],
+    roles: usize,
+    rows: usize,
+    heads: &'a [u16; 8],
+    counts: &'a [u8; 64],
+    labels: &'a [u8; 256],
+    payloads: &'a [u32; 256],
+) -> bool
     requires { ⌜ (rows ≡ blockRows (now tables) roles) × (rows ≤ 256) ⌝ }
     ensures { λ r. ⌜ r ≡ stateGood base (now (tables .entry)) roles (stateOf (now (heads .entry)) (now (counts .entry)) (now (labels .entry)) (now (payloads .entry))) ⌝ }
 {

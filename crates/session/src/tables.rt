@@ -1,7 +1,7 @@
 // Rule 12: tables that are well formed for a step.
+use crate::rows::Row;
+use crate::rows::{self};
 use table::Table;
-use crate::rows::{self, Row};
-
 ghost use mathlib.Core.Path.{_≡_};
 ghost use mathlib.Core.Bool.{Bool, true, _&&_};
 ghost use Prim.Native.Nat.{ℕ, _+_, _*_, _<_, _≤_};
@@ -57,7 +57,15 @@ fn is_peer(roles: usize, role: usize, peer: u16) -> bool
 }
 
 // The kind of a row chooses the tests of its fields and links.
-fn row_holds(tables: &[u16], roles: usize, rows: usize, start: usize, role: usize, row: usize, part: Row) -> bool
+fn row_holds(
+    tables: &[u16],
+    roles: usize,
+    rows: usize,
+    start: usize,
+    role: usize,
+    row: usize,
+    part: Row,
+) -> bool
     ensures { λ r. ⌜ r ≡ rowHoldsAt base (now (tables .entry)) roles rows start role row (said part) ⌝ }
 {
     let kind = part.kind;
@@ -100,7 +108,14 @@ fn has_head(tables: &[u16], start: usize, left: usize, row: u16) -> bool
 }
 
 // A row is well formed, and has a head if it is no Arm. Only a Loop or a Back is followed: a row of another kind is its own head.
-fn row_good(tables: &[u16], roles: usize, rows: usize, start: usize, role: usize, row: usize) -> bool
+fn row_good(
+    tables: &[u16],
+    roles: usize,
+    rows: usize,
+    start: usize,
+    role: usize,
+    row: usize,
+) -> bool
     requires { ⌜ 0 < rows ⌝ }
     ensures { λ r. ⌜ r ≡ rowGoodAt base (now (tables .entry)) roles rows start role row ⌝ }
 {

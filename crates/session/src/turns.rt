@@ -1,9 +1,10 @@
 // The tests of a call past rules 12 to 14: the kind of the role's head decides. Over good tables and a good state.
 use crate::Answer;
 use crate::Session;
-use crate::rows::{self, Found, Row};
+use crate::rows::Found;
+use crate::rows::Row;
+use crate::rows::{self};
 use crate::state;
-
 ghost use mathlib.Core.Path.{_≡_};
 ghost use Prim.Native.Nat.{ℕ, _+_, _*_, _<_};
 ghost use mathlib.Core.List.{[]};
@@ -19,7 +20,15 @@ pub enum Turn {
 }
 
 // Rules 15 to 17 for a send of that label, by a role whose head is this row and whose queue holds that many.
-pub fn send_turn(tables: &[u16], start: usize, rows: usize, part: Row, receiver: usize, label: usize, count: u8) -> Turn
+pub fn send_turn(
+    tables: &[u16],
+    start: usize,
+    rows: usize,
+    part: Row,
+    receiver: usize,
+    label: usize,
+    count: u8,
+) -> Turn
     ensures { λ r. ⌜ r ≡ sendTurn base (now (tables .entry)) start rows receiver label count (said part) ⌝ }
 {
     let kind = part.kind;
@@ -44,7 +53,15 @@ pub fn send_turn(tables: &[u16], start: usize, rows: usize, part: Row, receiver:
 }
 
 // Rules 15, 18 and 19 for a receive, by a role whose head is this row; the queue holds that many, with that label first.
-pub fn receive_turn(tables: &[u16], start: usize, rows: usize, part: Row, sender: usize, count: u8, label: u8) -> Turn
+pub fn receive_turn(
+    tables: &[u16],
+    start: usize,
+    rows: usize,
+    part: Row,
+    sender: usize,
+    count: u8,
+    label: u8,
+) -> Turn
     ensures { λ r. ⌜ r ≡ receiveTurn (now (tables .entry)) start rows sender count label (said part) ⌝ }
 {
     let kind = part.kind;
@@ -67,7 +84,15 @@ pub fn receive_turn(tables: &[u16], start: usize, rows: usize, part: Row, sender
 }
 
 // A role whose head is this row has a call that would be accepted.
-pub fn can_act<'a>(tables: &[u16], start: usize, rows: usize, role: usize, part: Row, counts: &'a [u8; 64], labels: &'a [u8; 256]) -> bool
+pub fn can_act<'a>(
+    tables: &[u16],
+    start: usize,
+    rows: usize,
+    role: usize,
+    part: Row,
+    counts: &'a [u8; 64],
+    labels: &'a [u8; 256],
+) -> bool
     requires { ⌜ (role < 8) × LowPeer part ⌝ }
     ensures { λ r. ⌜ r ≡ actsAt base (now (tables .entry)) start rows (queues (now (counts .entry)) (now (labels .entry)) []) role (said part) ⌝ }
 {

@@ -8,7 +8,7 @@ use lib.Dec.{leb, eqb}
 use native.Mathlib.Numerals.{add-one}
 use native.Mathlib.Decide.{decLt}
 use native.Mathlib.Omega.{arith}
-use borrow.Author.Tests.{lt-ltb, le-ltb, eqb-true, leb-false}
+use borrow.Author.Tests.{lt-leb, lt-ltb, le-ltb, eqb-true, leb-false}
 use Rattle.words.specs.Rows.{rowsOf, word}
 use Rattle.words.proofs.Below.{lowest-none, lowest-at, any-none, any-at}
 use Rattle.table.specs.Rows.{rowOf}
@@ -40,7 +40,7 @@ module _ (t : List ℕ) (first i row : ℕ) (er : row ≡ nth t first i) where
             let s : stops t first i ≡ true = rw z′ in
             rw (lowest-at (stops t first) (rowsOf t) i h before s, lt-ltb i (rowsOf t) h, z′)
         go (yes h) false z =
-            absurd (true≢false (sym (rw (z, borrow.Author.Tests.lt-leb (rowsOf t) i h) at e)))
+            absurd (true≢false (sym (rw (z, lt-leb (rowsOf t) i h) at e)))
         go (no h) b z =
             let q : i ≡ rowsOf t = omega arith in
             rw (lowest-none (stops t first) (rowsOf t) (λ k m. before k (omega arith)), le-ltb (rowsOf t) (rowsOf t) (omega arith))

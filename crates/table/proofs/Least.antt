@@ -5,14 +5,16 @@ use mathlib.Core.Logic.{⊎-elim}
 use mathlib.Core.Path.{_≡_, refl, sym, _∙_}
 use lib.Dec.{ltb}
 use native.Mathlib.Nat.{eq-or-lt-of-le, le-of-suc-le-suc}
+use native.Mathlib.Decide.{decLt}
 use native.Mathlib.Omega.{arith}
+use borrow.Author.Tests.{ltb-true, ltb-false}
 use Rattle.words.specs.Below.{lowest}
 use Rattle.words.proofs.Below.{Lowest, found, nowhere, lowest-is}
 use Rattle.table.specs.mirror.Blame.{least}
 
 min-le : (a k : ℕ) (b : Bool) → ltb a k ≡ b → (cond b a k ≤ a) × (cond b a k ≤ k)
-min-le a k true e = let l = borrow.Author.Tests.ltb-true a k e in (omega arith, omega arith)
-min-le a k false e = let l = borrow.Author.Tests.ltb-false a k e in (omega arith, omega arith)
+min-le a k true e = let l = ltb-true a k e in (omega arith, omega arith)
+min-le a k false e = let l = ltb-false a k e in (omega arith, omega arith)
 
 min-ge : (a k i : ℕ) (b : Bool) → i ≤ a → i ≤ k → i ≤ cond b a k
 min-ge a k i true h l = h
@@ -53,7 +55,7 @@ pub data Finds (g : ℕ → ℕ) (n i : ℕ) : Type 0 where
 
 sound-ge : {p : ℕ → Bool} {n j : ℕ} (i : ℕ) → i < n → ((k : ℕ) → k < i → p k ≡ false) → Sound p n j → i ≤ j
 sound-ge {n = n} i l h none = omega arith
-sound-ge {p} i l h (some {i = j} m e) = go (native.Mathlib.Decide.decLt j i)
+sound-ge {p} i l h (some {i = j} m e) = go (decLt j i)
   where
     go : Dec (j < i) → i ≤ j
     go (yes q) = absurd (true≢false (sym e ∙ h j q))

@@ -11,6 +11,6 @@ pub mod Sizes
 pub mod Accepted
 pub mod Grown
 pub mod Trees
-pub mod Size
+pub mod Weight
 pub mod Claims
 pub mod Rowwise

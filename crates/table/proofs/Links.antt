@@ -7,7 +7,7 @@ use mathlib.Core.Logic.{_⊎_, inl, inr, ⊎-elim}
 use mathlib.Core.Path.{_≡_, refl}
 use lib.Dec.{ltb, eqb}
 use native.Mathlib.Omega.{arith}
-use borrow.Author.Tests.{lt-ltb, le-ltb, eq-eqb, ne-eqb, ltb-true, eqb-true, eqb-false, not-true, not-false}
+use borrow.Author.Tests.{ltb-false, lt-ltb, le-ltb, eq-eqb, ne-eqb, ltb-true, eqb-true, eqb-false, not-true, not-false}
 use Rattle.words.specs.Rows.{rowsOf}
 use Rattle.words.specs.Below.{one}
 use Rattle.words.proofs.Below.{Lowest, found, nowhere, lowest-is, lowest-at, sum-zero, sum-two}
@@ -74,7 +74,7 @@ names : (t : List ℕ) (i : ℕ) {p : ℕ} → timesNamed t i ≡ 1 → Lowest (
 names t i e (found {i = p} l h b) = (l, ltb-true 0 (times i (links (row t p))) h)
 names t i e (nowhere h) =
     let z = sum-zero (λ q. times i (links (row t q))) (rowsOf t)
-    (λ k l. let m = borrow.Author.Tests.ltb-false 0 (times i (links (row t k))) (h k l) in omega arith) in
+    (λ k l. let m = ltb-false 0 (times i (links (row t k))) (h k l) in omega arith) in
     absurd (omega arith)
 
 pub namer-names : (t : List ℕ) (i : ℕ) → timesNamed t i ≡ 1 → (namer t i < rowsOf t) × (0 < times i (links (row t (namer t i))))

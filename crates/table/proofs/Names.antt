@@ -9,7 +9,7 @@ use lib.ListN.{length, getD, set, replicate, length-set, length-replicate, getD-
 use lib.Seq.{getD-set-same, getD-set-other}
 use native.Mathlib.Decide.{ℕ-discrete, decLt}
 use native.Mathlib.Omega.{arith}
-use borrow.Author.Tests.{lt-ltb, le-ltb, eq-eqb, ne-eqb}
+use borrow.Author.Tests.{ltb-false, lt-ltb, le-ltb, eq-eqb, ne-eqb}
 use Rattle.words.specs.Rows.{rowsOf}
 use Rattle.words.specs.Below.{lowest, sum, one}
 use Rattle.words.proofs.Below.{lowest-le}
@@ -91,7 +91,7 @@ pub record Filling (t by count : List ℕ) (p : ℕ) : Type 0 where
 
 at-end : (b : Bool) (k n : ℕ) → ltb k n ≡ b → k ≤ n → cond b k n ≡ k
 at-end true k n e h = refl
-at-end false k n e h = let l = borrow.Author.Tests.ltb-false k n e in omega arith
+at-end false k n e h = let l = ltb-false k n e in omega arith
 
 pub filling-start : (t : List ℕ) → rowsOf t ≤ base .rows → (n : ℕ) → n ≡ rowsOf t → Filling t (replicate places n) (replicate places 0) (rowsOf t)
 filling-start t h n e = record {

@@ -1,114 +1,121 @@
 -- Rules 4 to 10 in order: what one turn of the loop over them finds, and what is then known. Assumes nothing.
-use Prim.Native.Nat.{ℕ, zero, suc, _+_, _≤_, _<_}
+use Prim.Native.Nat.{ℕ, _+_, _≤_, _<_}
 use mathlib.Core.Bool.{Bool, false}
 use mathlib.Core.List.{List, [], _∷_}
-use mathlib.Core.Path.{_≡_, refl, sym, _∙_}
+use mathlib.Core.Logic.{⊎-elim}
+use mathlib.Core.Path.{_≡_, refl, sym, _∙_, ap}
+use native.Mathlib.Nat.{eq-or-lt-of-le}
 use native.Mathlib.Omega.{arith}
 use borrow.Author.Tests.{lt-ltb, le-ltb}
 use Rattle.words.specs.Rows.{rowsOf}
 use Rattle.words.specs.Below.{lowest}
 use Rattle.words.proofs.Below.{Lowest, found, nowhere, lowest-is}
 use Rattle.table.specs.Limits.{base}
-use Rattle.table.specs.Rules.{Rule, kind, field, link, named, twice, unbound, unguarded, rules, breaks}
-use Rattle.table.specs.Check.{says, accepted, refusedAt, tested}
+use Rattle.table.specs.Numbers.{KIND, UNGUARDED}
+use Rattle.table.specs.Rules.{Rule, kind, field, link, named, twice, unbound, unguarded, rules, number, breaks}
+use Rattle.table.specs.Check.{says, accepted, tested}
 use Rattle.table.specs.mirror.Blame.{ruleOf, blames, least}
 use Rattle.table.proofs.Least.{own}
 use Rattle.table.proofs.Repeats.{twice-least}
 
 -- no row breaks the rule
-abbrev pub Keeps : List ℕ → ℕ → Rule → Type 0
+abbrev Keeps : List ℕ → ℕ → Rule → Type 0
 Keeps t roles k = (i : ℕ) → i < rowsOf t → breaks base t roles k i ≡ false
 
--- the rules from number n on
-abbrev from : ℕ → List Rule
-from zero = rules
-from (suc zero) = rules
-from (suc (suc zero)) = rules
-from (suc (suc (suc zero))) = rules
-from (suc (suc (suc (suc zero)))) = kind ∷ field ∷ link ∷ named ∷ twice ∷ unbound ∷ unguarded ∷ []
-from (suc (suc (suc (suc (suc zero))))) = field ∷ link ∷ named ∷ twice ∷ unbound ∷ unguarded ∷ []
-from (suc (suc (suc (suc (suc (suc zero)))))) = link ∷ named ∷ twice ∷ unbound ∷ unguarded ∷ []
-from (suc (suc (suc (suc (suc (suc (suc zero))))))) = named ∷ twice ∷ unbound ∷ unguarded ∷ []
-from (suc (suc (suc (suc (suc (suc (suc (suc zero)))))))) = twice ∷ unbound ∷ unguarded ∷ []
-from (suc (suc (suc (suc (suc (suc (suc (suc (suc zero))))))))) = unbound ∷ unguarded ∷ []
-from (suc (suc (suc (suc (suc (suc (suc (suc (suc (suc zero)))))))))) = unguarded ∷ []
-from (suc (suc (suc (suc (suc (suc (suc (suc (suc (suc (suc n))))))))))) = []
-
--- what the loop finds is the lowest row that breaks the rule, where the rules before it are kept
-pub rule-lowest : (t : List ℕ) (roles n : ℕ) → 4 ≤ n → n ≤ 10 → ((k : ℕ) → 4 ≤ k → k < n → Keeps t roles (ruleOf k))
-    → least (blames t roles (ruleOf n)) (rowsOf t) (rowsOf t) ≡ lowest (breaks base t roles (ruleOf n)) (rowsOf t)
+-- what the loop over rows finds is the lowest row that breaks the rule, where the rules before it are kept
+rule-lowest : (t : List ℕ) (roles : ℕ) (k : Rule) → ((j : Rule) → number j < number k → Keeps t roles j)
+    → least (blames t roles k) (rowsOf t) (rowsOf t) ≡ lowest (breaks base t roles k) (rowsOf t)
 unfolding blames breaks
-rule-lowest t roles zero a b h = absurd (omega arith)
-rule-lowest t roles (suc zero) a b h = absurd (omega arith)
-rule-lowest t roles (suc (suc zero)) a b h = absurd (omega arith)
-rule-lowest t roles (suc (suc (suc zero))) a b h = absurd (omega arith)
-rule-lowest t roles (suc (suc (suc (suc zero)))) a b h = own (breaks base t roles kind) (rowsOf t)
-rule-lowest t roles (suc (suc (suc (suc (suc zero))))) a b h = own (breaks base t roles field) (rowsOf t)
-rule-lowest t roles (suc (suc (suc (suc (suc (suc zero)))))) a b h = own (breaks base t roles link) (rowsOf t)
-rule-lowest t roles (suc (suc (suc (suc (suc (suc (suc zero))))))) a b h = own (breaks base t roles named) (rowsOf t)
-rule-lowest t roles (suc (suc (suc (suc (suc (suc (suc (suc zero)))))))) a b h = twice-least t (h 6 (omega arith) (omega arith)) (h 7 (omega arith) (omega arith))
-rule-lowest t roles (suc (suc (suc (suc (suc (suc (suc (suc (suc zero))))))))) a b h = own (breaks base t roles unbound) (rowsOf t)
-rule-lowest t roles (suc (suc (suc (suc (suc (suc (suc (suc (suc (suc zero)))))))))) a b h = own (breaks base t roles unguarded) (rowsOf t)
-rule-lowest t roles (suc (suc (suc (suc (suc (suc (suc (suc (suc (suc (suc n))))))))))) a b h = absurd (omega arith)
+rule-lowest t roles kind h = own (breaks base t roles kind) (rowsOf t)
+rule-lowest t roles field h = own (breaks base t roles field) (rowsOf t)
+rule-lowest t roles link h = own (breaks base t roles link) (rowsOf t)
+rule-lowest t roles named h = own (breaks base t roles named) (rowsOf t)
+rule-lowest t roles twice h = twice-least t (h link (omega arith)) (h named (omega arith))
+rule-lowest t roles unbound h = own (breaks base t roles unbound) (rowsOf t)
+rule-lowest t roles unguarded h = own (breaks base t roles unguarded) (rowsOf t)
 
-from-step : (t : List ℕ) (roles n : ℕ) → 4 ≤ n → n ≤ 10
-    → tested base t roles (from n) accepted
-    ≡ refusedAt n (breaks base t roles (ruleOf n)) (rowsOf t) (tested base t roles (from (n + 1)) accepted)
-unfolding tested
-from-step t roles zero a b = absurd (omega arith)
-from-step t roles (suc zero) a b = absurd (omega arith)
-from-step t roles (suc (suc zero)) a b = absurd (omega arith)
-from-step t roles (suc (suc (suc zero))) a b = absurd (omega arith)
-from-step t roles (suc (suc (suc (suc zero)))) a b = refl
-from-step t roles (suc (suc (suc (suc (suc zero))))) a b = refl
-from-step t roles (suc (suc (suc (suc (suc (suc zero)))))) a b = refl
-from-step t roles (suc (suc (suc (suc (suc (suc (suc zero))))))) a b = refl
-from-step t roles (suc (suc (suc (suc (suc (suc (suc (suc zero)))))))) a b = refl
-from-step t roles (suc (suc (suc (suc (suc (suc (suc (suc (suc zero))))))))) a b = refl
-from-step t roles (suc (suc (suc (suc (suc (suc (suc (suc (suc (suc zero)))))))))) a b = refl
-from-step t roles (suc (suc (suc (suc (suc (suc (suc (suc (suc (suc (suc n))))))))))) a b = absurd (omega arith)
+-- each rule by its number
+rule-number : (k : Rule) → (ruleOf (number k) ≡ k) × (KIND ≤ number k) × (number k ≤ UNGUARDED)
+rule-number kind = (refl, omega arith, omega arith)
+rule-number field = (refl, omega arith, omega arith)
+rule-number link = (refl, omega arith, omega arith)
+rule-number named = (refl, omega arith, omega arith)
+rule-number twice = (refl, omega arith, omega arith)
+rule-number unbound = (refl, omega arith, omega arith)
+rule-number unguarded = (refl, omega arith, omega arith)
+
+-- these are the rules from number n on
+pub data From : ℕ → List Rule → Type 0 where
+  none : {n : ℕ} → UNGUARDED < n → From n []
+  rule : {n : ℕ} {k : Rule} {ks : List Rule} → number k ≡ n → From (n + 1) ks → From n (k ∷ ks)
 
 -- before rule n: the rules before it are kept, and the answer is that of the rules from n on
 pub record Turn (t : List ℕ) (roles n : ℕ) : Type 0 where
-  pub low : 4 ≤ n
-  pub high : n ≤ 11
-  pub kept : (k : ℕ) → 4 ≤ k → k < n → Keeps t roles (ruleOf k)
-  pub rest : tested base t roles (from n) accepted ≡ tested base t roles rules accepted
+  pub left : List Rule
+  pub from : From n left
+  pub kept : (j : Rule) → number j < n → Keeps t roles j
+  pub rest : tested base t roles left accepted ≡ tested base t roles rules accepted
 
-pub turn-start : (t : List ℕ) (roles : ℕ) → Turn t roles 4
-turn-start t roles = record { low = omega arith; high = omega arith; kept = λ k a b. absurd (omega arith); rest = refl }
+pub turn-start : (t : List ℕ) (roles : ℕ) → Turn t roles KIND
+turn-start t roles = record {
+  left = rules;
+  from = rule refl (rule refl (rule refl (rule refl (rule refl (rule refl (rule refl (none {n = 11} (omega arith))))))));
+  kept = λ j h. let l = rule-number j .1 in absurd (omega arith);
+  rest = refl;
+}
+
+-- a rule is left
+low : {n : ℕ} {ks : List Rule} → From n ks → n ≤ UNGUARDED → KIND ≤ n
+low (none {n = n} h) l = absurd (omega arith)
+low (rule {k = k} e f) l = let h = rule-number k .1 in omega arith
+
+pub turn-low : (t : List ℕ) (roles n : ℕ) → Turn t roles n → n ≤ UNGUARDED → KIND ≤ n
+turn-low t roles n turn l = low (turn .from) l
 
 none-below : {p : ℕ → Bool} {n i : ℕ} → Lowest p n i → n ≤ i → (k : ℕ) → k < n → p k ≡ false
 none-below {n = n} (found {i = i} l e h) m = absurd (omega arith)
 none-below (nowhere h) m = h
 
-module _ (t : List ℕ) (roles n at : ℕ) (high : n ≤ 10) (turn : Turn t roles n)
-    (e : at ≡ least (blames t roles (ruleOf n)) (rowsOf t) (rowsOf t)) where
-  at-lowest : lowest (breaks base t roles (ruleOf n)) (rowsOf t) ≡ at
-  at-lowest = sym (e ∙ rule-lowest t roles n (turn .low) high (turn .kept))
+module _ (t : List ℕ) (roles n at : ℕ) (high : n ≤ UNGUARDED) (e : at ≡ least (blames t roles (ruleOf n)) (rowsOf t) (rowsOf t)) where
+  -- what was found, for the rule of that number
+  at-lowest : (k : Rule) → number k ≡ n → ((j : Rule) → number j < n → Keeps t roles j) → lowest (breaks base t roles k) (rowsOf t) ≡ at
+  at-lowest k q h =
+      let r : ruleOf n ≡ k = ap ruleOf (sym q) ∙ rule-number k .0 in
+      sym (rw r at e ∙ rule-lowest t roles k (λ j l. h j (omega arith)))
 
-  pub turn-refused : at < rowsOf t → says n at ≡ tested base t roles rules accepted
-  turn-refused l =
-      sym (sym (turn .rest) ∙ (from-step t roles n (turn .low) high ∙ rw (at-lowest, lt-ltb at (rowsOf t) l)))
+  refused : {ks : List Rule} → From n ks → ((j : Rule) → number j < n → Keeps t roles j) → at < rowsOf t → says n at ≡ tested base t roles ks accepted
+  unfolding tested
+  refused (none h) kept l = absurd (omega arith)
+  refused (rule {k = k} q f) kept l = rw (at-lowest k q kept, lt-ltb at (rowsOf t) l, q)
 
-  pub turn-next : rowsOf t ≤ at → Turn t roles (n + 1)
-  turn-next l =
-      let low = turn .low in
-      record {
-        low = omega arith;
-        high = omega arith;
-        kept = λ k a b.
-            mathlib.Core.Logic.⊎-elim
-            (λ q. rw q (none-below (lowest-is (breaks base t roles (ruleOf n)) (rowsOf t)) (rw at-lowest l)))
-            (λ q. turn .kept k a q)
-            (native.Mathlib.Nat.eq-or-lt-of-le (let c : k ≤ n = omega arith in c));
-        rest =
-            sym (from-step t roles n (turn .low) high ∙ rw (at-lowest, le-ltb at (rowsOf t) l)) ∙ turn .rest;
-      }
+  pub turn-refused : Turn t roles n → at < rowsOf t → says n at ≡ tested base t roles rules accepted
+  turn-refused turn l = refused (turn .from) (turn .kept) l ∙ turn .rest
 
-pub turn-end : (t : List ℕ) (roles n : ℕ) → 10 < n → Turn t roles n → accepted ≡ tested base t roles rules accepted
+  passed : {ks : List Rule} → From n ks → ((j : Rule) → number j < n → Keeps t roles j) → rowsOf t ≤ at
+      → tested base t roles ks accepted ≡ tested base t roles rules accepted → Turn t roles (n + 1)
+  unfolding tested
+  passed (none h) kept l r = absurd (omega arith)
+  passed (rule {k = k} {ks = ks} q f) kept l r = record {
+    left = ks;
+    from = f;
+    kept = λ j h.
+        let m : number j ≤ n = omega arith in
+        ⊎-elim
+        (λ z.
+        let s : j ≡ k = sym (rule-number j .0) ∙ (ap ruleOf (z ∙ sym q) ∙ rule-number k .0) in
+        rw s (none-below (lowest-is (breaks base t roles k) (rowsOf t)) (rw (at-lowest k q kept) l)))
+        (λ z. kept j z)
+        (eq-or-lt-of-le m);
+    rest = rw (at-lowest k q kept, le-ltb at (rowsOf t) l) at r;
+  }
+
+  pub turn-next : Turn t roles n → rowsOf t ≤ at → Turn t roles (n + 1)
+  turn-next turn l = passed (turn .from) (turn .kept) l (turn .rest)
+
+ended : (t : List ℕ) (roles : ℕ) {n : ℕ} {ks : List Rule} → From n ks → UNGUARDED < n → accepted ≡ tested base t roles ks accepted
 unfolding tested
-turn-end t roles n l turn =
-    let h = turn .high in
-    let q : n ≡ 11 = omega arith in
-    rw q at (turn .rest)
+ended t roles (none h) l = refl
+ended t roles (rule {k = k} e f) l = let h = rule-number k .2 in absurd (omega arith)
+
+pub turn-end : (t : List ℕ) (roles n : ℕ) → UNGUARDED < n → Turn t roles n → accepted ≡ tested base t roles rules accepted
+turn-end t roles n l turn = ended t roles (turn .from) l ∙ turn .rest

@@ -3,7 +3,7 @@ use Prim.Native.Nat.{ℕ, zero, suc, _+_, _-_, _≤_, _<_}
 use mathlib.Core.Bool.{Bool, true, false, cond, not, _&&_, true≢false}
 use mathlib.Core.List.{List, [], _∷_}
 use mathlib.Core.Path.{_≡_, refl, sym, _∙_}
-use lib.Dec.{ltb, eqb}
+use lib.Dec.{leb·suc-suc, ltb, eqb}
 use native.Mathlib.Omega.{arith}
 use borrow.Author.Tests.{lt-ltb, le-ltb, ne-eqb}
 use Rattle.words.specs.Rows.{rowsOf}
@@ -105,5 +105,5 @@ only-loops t zero (p ∷ ps) = at-zero (isLoop (row t p))
 only-loops t (suc d) (p ∷ ps) = at-suc (isLoop (row t p)) (only-loops t d ps)
   where
     at-suc : (b : Bool) → onlyLoops t d ps ≡ ltb d (nearLoops t ps) → (b && onlyLoops t d ps) ≡ ltb (suc d) (cond b (suc (nearLoops t ps)) 0)
-    at-suc true e = e ∙ sym (lib.Dec.leb·suc-suc (suc d) (nearLoops t ps))
+    at-suc true e = e ∙ sym (leb·suc-suc (suc d) (nearLoops t ps))
     at-suc false e = sym (le-ltb (suc d) 0 (omega arith))

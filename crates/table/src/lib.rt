@@ -423,7 +423,7 @@ fn lowest(words: &[u16], roles: usize, by: &[u16; PLACES], times: &[u16; PLACES]
 
 // Rules 4 to 10 in order, each over all rows. Who names each row is found once, in one pass. A rule then looks at each row once; at a Back
 // also at the rows over it, at an Exchange also at each two arms of its chain.
-pub fn rules(words: &[u16], roles: usize) -> Verdict
+fn rules(words: &[u16], roles: usize) -> Verdict
     requires { ⌜ Small (now words) ⌝ }
     ensures { λ r. ⌜ r ≡ tested base (now (words .entry)) roles rulesInOrder accepted ⌝ }
 {

@@ -1,8 +1,10 @@
 -- `opening::verdict` meets its contract: each return is one step of the order in which rules are tested. Assumes nothing.
+use mathlib.Core.Path.{_∙_}
 use native.Mathlib.Omega.{arith}
 use borrow.Author.Needs.{needs}
 use Rattle.table.specs.Limits.{base}
-use Rattle.table.proofs.Sizes.{measured, sizes-kept}
+use Rattle.table.proofs.Sizes.{sizes-kept}
+use Rattle.table.proofs.Accepted.{check-past-sizes}
 use Rattle.opening.proofs.Order.{few-words, open-sized, open-room, open-ruled, checked, open-lacking, open-accepted, ready}
 use Rattle.opening.proofs.verdict.Statement.{statement}
 use Rattle.opening.proofs.verdict.Tie as tie
@@ -23,27 +25,23 @@ returns-2 : tie.Need-returns-2
 returns-2 c =
     (open-room _ _ _ (sizes-kept base _ _ _ (c .before .before .sizes .ensures) (c .before .if1 .left)) (c .if2 .taken), λ e. absurd (omega arith))
 
-rules-requires : tie.Need-rules-requires
-rules-requires c κs =
-    let t = c .before .before .before .before .args .table .now in
-    let roles = c .before .before .before .before .args .roles in
-    let m = measured base t roles (sizes-kept base t roles _ (c .before .before .sizes .ensures) (c .before .if1 .left)) in
-    omega arith
+check-requires : tie.Need-check-requires
+check-requires c κs = search needs
 
 returns-3 : tie.Need-returns-3
 returns-3 c =
     let s = sizes-kept base _ _ _ (c .before .before .before .before .sizes .ensures) (c .before .before .before .if1 .left) in
-    (open-ruled _ _ _ s (c .before .before .if2 .left) _ (c .before .rules .ensures) (c .if3 .taken), λ e. absurd (c .if3 .taken e))
+    (open-ruled _ _ _ s (c .before .before .if2 .left) _ (c .before .check .ensures ∙ check-past-sizes base _ _ s) (c .if3 .taken), λ e. absurd (c .if3 .taken e))
 
 first-without-part-requires : tie.Need-first-without-part-requires
 first-without-part-requires c κs =
     let s = sizes-kept base _ _ _ (c .before .before .before .before .sizes .ensures) (c .before .before .before .if1 .left) in
-    checked _ _ _ s (c .before .before .if2 .left) _ (c .before .rules .ensures) (c .if3 .left)
+    checked _ _ _ s (c .before .before .if2 .left) _ (c .before .check .ensures ∙ check-past-sizes base _ _ s) (c .if3 .left)
 
 returns-4 : tie.Need-returns-4
 returns-4 c =
     let s = sizes-kept base _ _ _ (c .before .before .before .before .before .before .sizes .ensures) (c .before .before .before .before .before .if1 .left) in (
-      open-lacking _ _ _ s (c .before .before .before .before .if2 .left) _ (c .before .before .before .rules .ensures) (c .before .before .if3 .left) _
+      open-lacking _ _ _ s (c .before .before .before .before .if2 .left) _ (c .before .before .before .check .ensures ∙ check-past-sizes base _ _ s) (c .before .before .if3 .left) _
           (c .before .first-without-part .ensures) (c .if4 .taken),
       λ e. absurd (omega arith),
     )
@@ -51,9 +49,9 @@ returns-4 c =
 returns-5 : tie.Need-returns-5
 returns-5 c =
     let s = sizes-kept base _ _ _ (c .before .before .before .before .before .before .sizes .ensures) (c .before .before .before .before .before .if1 .left) in (
-      open-accepted _ _ _ s (c .before .before .before .before .if2 .left) _ (c .before .before .before .rules .ensures) (c .before .before .if3 .left) _
+      open-accepted _ _ _ s (c .before .before .before .before .if2 .left) _ (c .before .before .before .check .ensures ∙ check-past-sizes base _ _ s) (c .before .before .if3 .left) _
           (c .before .first-without-part .ensures) (c .if4 .left),
-      λ e. ready _ _ _ s (c .before .before .before .before .if2 .left) _ (c .before .before .before .rules .ensures) (c .before .before .if3 .left) _
+      λ e. ready _ _ _ s (c .before .before .before .before .if2 .left) _ (c .before .before .before .check .ensures ∙ check-past-sizes base _ _ s) (c .before .before .if3 .left) _
           (c .before .first-without-part .ensures) (c .if4 .left),
     )
 
@@ -65,7 +63,7 @@ verdict-spec =
     returns
     mul-if2
     returns-2
-    rules-requires
+    check-requires
     returns-3
     first-without-part-requires
     returns-4

@@ -1,7 +1,7 @@
 -- `table::rules` meets its contract. The invariant: the rules before this one are kept, and the answer is that of the rules from this one on. Assumes nothing.
 use Prim.Native.Nat.{_-_}
 use native.Mathlib.Omega.{arith}
-use Rattle.table.proofs.Order.{Turn, turn-start, turn-refused, turn-next, turn-end}
+use Rattle.table.proofs.Order.{Turn, turn-start, turn-low, turn-refused, turn-next, turn-end}
 use Rattle.table.proofs.rules.Statement.{statement}
 use Rattle.table.proofs.rules.Tie as tie
 
@@ -18,10 +18,10 @@ loop-holds : tie.Need-loop-holds Inv-loop μ-loop
 loop-holds c = turn-start _ _
 
 lowest-requires : tie.Need-lowest-requires Inv-loop μ-loop
-lowest-requires c κs = ((c .before .before .before .before .before .before .before .before .pre, c .before .before .before .before .before .before .name-rows .ensures .0, c .before .before .before .before .before .before .name-rows .ensures .1), c .before .before .before .loop .inv .low, c .before .before .loop-test .taken)
+lowest-requires c κs = ((c .before .before .before .before .before .before .before .before .pre, c .before .before .before .before .before .before .name-rows .ensures .0, c .before .before .before .before .before .before .name-rows .ensures .1), turn-low _ _ _ (c .before .before .before .loop .inv) (c .before .before .loop-test .taken), c .before .before .loop-test .taken)
 
 returns : tie.Need-returns Inv-loop μ-loop
-returns c = turn-refused _ _ _ _ (c .before .before .before .before .loop-test .taken) (c .before .before .before .before .before .loop .inv) (c .before .lowest .ensures) (c .if1 .taken)
+returns c = turn-refused _ _ _ _ (c .before .before .before .before .loop-test .taken) (c .before .lowest .ensures) (c .before .before .before .before .before .loop .inv) (c .if1 .taken)
 
 add-rule : tie.Need-add-rule Inv-loop μ-loop
 add-rule c = omega arith
@@ -30,7 +30,7 @@ loop-less : tie.Need-loop-less Inv-loop μ-loop
 loop-less c = omega arith
 
 loop-again : tie.Need-loop-again Inv-loop μ-loop
-loop-again c = turn-next _ _ _ _ (c .before .before .before .before .loop-test .taken) (c .before .before .before .before .before .loop .inv) (c .before .lowest .ensures) (c .if1 .left)
+loop-again c = turn-next _ _ _ _ (c .before .before .before .before .loop-test .taken) (c .before .lowest .ensures) (c .before .before .before .before .before .loop .inv) (c .if1 .left)
 
 returns-2 : tie.Need-returns-2 Inv-loop μ-loop
 returns-2 c = turn-end _ _ _ (c .loop-test .left) (c .before .loop .inv)

@@ -1,27 +1,28 @@
 -- What a rule finds at each row, and the least of it over all rows. Assumes nothing.
-use Prim.Native.Nat.{ℕ, zero, suc}
+use Prim.Native.Nat.{ℕ, zero, suc, _-_}
 use mathlib.Core.Bool.{cond}
 use mathlib.Core.List.{List}
 use lib.Dec.{ltb}
 use Rattle.words.specs.Rows.{rowsOf}
 use Rattle.table.specs.Limits.{base}
+use Rattle.table.specs.Numbers.{KIND}
 use Rattle.table.specs.Rows.{row}
 use Rattle.table.specs.Rules.{Rule, kind, field, link, named, twice, unbound, unguarded, breaks}
 use Rattle.table.specs.mirror.Chain.{chainOf}
 
--- the rule of each number 4 to 10
+-- the rule after so many others
+abbrev pub ruleAfter : ℕ → Rule
+ruleAfter zero = kind
+ruleAfter (suc zero) = field
+ruleAfter (suc (suc zero)) = link
+ruleAfter (suc (suc (suc zero))) = named
+ruleAfter (suc (suc (suc (suc zero)))) = twice
+ruleAfter (suc (suc (suc (suc (suc zero))))) = unbound
+ruleAfter (suc (suc (suc (suc (suc (suc n)))))) = unguarded
+
+-- the rule of each number
 abbrev pub ruleOf : ℕ → Rule
-ruleOf zero = kind
-ruleOf (suc zero) = kind
-ruleOf (suc (suc zero)) = kind
-ruleOf (suc (suc (suc zero))) = kind
-ruleOf (suc (suc (suc (suc zero)))) = kind
-ruleOf (suc (suc (suc (suc (suc zero))))) = field
-ruleOf (suc (suc (suc (suc (suc (suc zero)))))) = link
-ruleOf (suc (suc (suc (suc (suc (suc (suc zero))))))) = named
-ruleOf (suc (suc (suc (suc (suc (suc (suc (suc zero)))))))) = twice
-ruleOf (suc (suc (suc (suc (suc (suc (suc (suc (suc zero))))))))) = unbound
-ruleOf (suc (suc (suc (suc (suc (suc (suc (suc (suc (suc n)))))))))) = unguarded
+ruleOf n = ruleAfter (n - KIND)
 
 -- the row itself where it breaks the rule; for TWICE the arm of its chain that does; as many as there are rows for none
 unfoldable pub blames : List ℕ → ℕ → Rule → ℕ → ℕ

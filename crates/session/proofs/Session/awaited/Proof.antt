@@ -19,13 +19,13 @@ returns c = awaited-refused (c .before .before .before .before .before .before .
 
 -- src/lib.rt:97:13
 awaited-set-requires : tie.Need-awaited-set-requires
-awaited-set-requires c κs = 
+awaited-set-requires c κs =
     let st = ground-stands (c .before .before .before .before .before .before .before .before .before .before .before .before .before .before .args .tables .now) (c .before .before .before .before .before .before .before .before .before .before .before .before .before .before .args .roles) (c .before .before .before .before .before .before .before .before .before .before .before .before .before .before .args .t1) (c .before .before .before .before .before .before .before .standing .ensures) (c .before .before .before .before .before .if1 .left) in
     (st .rows-are, st .tables-good, st .state-good)
 
 -- src/lib.rt:90:5
 returns-2 : tie.Need-returns-2
-returns-2 c = 
+returns-2 c =
     let st = ground-stands (c .before .before .before .before .before .before .before .before .before .before .before .before .before .before .before .args .tables .now) (c .before .before .before .before .before .before .before .before .before .before .before .before .before .before .before .args .roles) (c .before .before .before .before .before .before .before .before .before .before .before .before .before .before .before .args .t1) (c .before .before .before .before .before .before .before .before .standing .ensures) (c .before .before .before .before .before .before .if1 .left) in
     awaited-accepted (c .before .before .before .before .before .before .before .before .before .before .before .before .before .before .before .args .tables .now) (c .before .before .before .before .before .before .before .before .before .before .before .before .before .before .before .args .roles) _ (c .before .before .before .before .before .before .before .before .before .before .before .before .before .before .before .args .t1) st (c .awaited-set .ensures)
 

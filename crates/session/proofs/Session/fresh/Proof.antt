@@ -20,13 +20,13 @@ returns c = fresh-refused (c .before .before .before .args .tables .now) (c .bef
 
 -- src/lib.rt:44:13
 first-heads-requires : tie.Need-first-heads-requires
-first-heads-requires c κs = 
+first-heads-requires c κs =
     let g = good-tables (c .before .before .before .args .tables .now) (c .before .before .before .args .roles) _ (c .before .rows-of .ensures) (c .if1 .left) in
     (g .1, omega (arith, g .2))
 
 -- src/lib.rt:36:5
 returns-2 : tie.Need-returns-2
-returns-2 c = 
+returns-2 c =
     let g = good-tables (c .before .before .before .before .args .tables .now) (c .before .before .before .before .args .roles) _ (c .before .before .rows-of .ensures) (c .before .if1 .left) in
     fresh-accepted (c .before .before .before .before .args .tables .now) (c .before .before .before .before .args .roles) (g .0) (c .first-heads .ensures)
 

@@ -33,25 +33,25 @@ enum-known-turn-2 c = search needs
 
 -- src/lib.rt:77:28
 mul-pair : tie.Need-mul-pair
-mul-pair c = 
+mul-pair c =
     let to = receive-to (c .before .before .before .before .before .before .before .before .before .before .args .tables .now) (c .before .before .before .before .before .before .before .before .before .before .args .roles) (c .before .before .before .before .before .before .before .before .before .before .args .sender) (c .before .before .before .before .before .before .before .before .before .before .args .receiver) (c .before .before .before .before .before .before .before .before .before .before .args .t1) _ (sym (c .before .before .before .judge-receive .ensures) ∙ c .before .turn2 .given .1) in
     omega (arith, to .p-low, to .q-low)
 
 -- src/lib.rt:77:28
 add-pair : tie.Need-add-pair
-add-pair c = 
+add-pair c =
     let to = receive-to (c .before .before .before .before .before .before .before .before .before .before .args .tables .now) (c .before .before .before .before .before .before .before .before .before .before .args .roles) (c .before .before .before .before .before .before .before .before .before .before .args .sender) (c .before .before .before .before .before .before .before .before .before .before .args .receiver) (c .before .before .before .before .before .before .before .before .before .before .args .t1) _ (sym (c .before .before .before .judge-receive .ensures) ∙ c .before .turn2 .given .1) in
     omega (arith, to .p-low, to .q-low)
 
 -- src/lib.rt:78:26
 labels-of-requires : tie.Need-labels-of-requires
-labels-of-requires c κs = 
+labels-of-requires c κs =
     let to = receive-to (c .before .before .before .before .before .before .before .before .before .before .before .before .args .tables .now) (c .before .before .before .before .before .before .before .before .before .before .before .before .args .roles) (c .before .before .before .before .before .before .before .before .before .before .before .before .args .sender) (c .before .before .before .before .before .before .before .before .before .before .before .before .args .receiver) (c .before .before .before .before .before .before .before .before .before .before .before .before .args .t1) _ (sym (c .before .before .before .before .before .judge-receive .ensures) ∙ c .before .before .before .turn2 .given .1) in
     omega (arith, to .p-low, to .q-low)
 
 -- src/lib.rt:79:26
 payloads-of-requires : tie.Need-payloads-of-requires
-payloads-of-requires c κs = 
+payloads-of-requires c κs =
     let to = receive-to (c .before .before .before .before .before .before .before .before .before .before .before .before .before .before .before .args .tables .now) (c .before .before .before .before .before .before .before .before .before .before .before .before .before .before .before .args .roles) (c .before .before .before .before .before .before .before .before .before .before .before .before .before .before .before .args .sender) (c .before .before .before .before .before .before .before .before .before .before .before .before .before .before .before .args .receiver) (c .before .before .before .before .before .before .before .before .before .before .before .before .before .before .before .args .t1) _ (sym (c .before .before .before .before .before .before .before .before .judge-receive .ensures) ∙ c .before .before .before .before .before .before .turn2 .given .1) in
     omega (arith, to .p-low, to .q-low)
 
@@ -69,7 +69,7 @@ array-read-self-2 c = search needs
 
 -- src/lib.rt:80:17
 put-labels-requires : tie.Need-put-labels-requires
-put-labels-requires c κs = 
+put-labels-requires c κs =
     let to = receive-to (c .before .before .before .before .before .before .before .before .before .before .before .before .before .before .before .before .before .args .tables .now) (c .before .before .before .before .before .before .before .before .before .before .before .before .before .before .before .before .before .args .roles) (c .before .before .before .before .before .before .before .before .before .before .before .before .before .before .before .before .before .args .sender) (c .before .before .before .before .before .before .before .before .before .before .before .before .before .before .before .before .before .args .receiver) (c .before .before .before .before .before .before .before .before .before .before .before .before .before .before .before .before .before .args .t1) _ (sym (c .before .before .before .before .before .before .before .before .before .before .judge-receive .ensures) ∙ c .before .before .before .before .before .before .before .before .turn2 .given .1) in
     omega (arith, to .p-low, to .q-low)
 
@@ -87,37 +87,37 @@ array-read-t44 c = search needs
 
 -- src/lib.rt:81:17
 put-payloads-requires : tie.Need-put-payloads-requires
-put-payloads-requires c κs = 
+put-payloads-requires c κs =
     let to = receive-to (c .before .before .before .before .before .before .before .before .before .before .before .before .before .before .before .before .before .before .before .args .tables .now) (c .before .before .before .before .before .before .before .before .before .before .before .before .before .before .before .before .before .before .before .args .roles) (c .before .before .before .before .before .before .before .before .before .before .before .before .before .before .before .before .before .before .before .args .sender) (c .before .before .before .before .before .before .before .before .before .before .before .before .before .before .before .before .before .before .before .args .receiver) (c .before .before .before .before .before .before .before .before .before .before .before .before .before .before .before .before .before .before .before .args .t1) _ (sym (c .before .before .before .before .before .before .before .before .before .before .before .before .judge-receive .ensures) ∙ c .before .before .before .before .before .before .before .before .before .before .turn2 .given .1) in
     omega (arith, to .p-low, to .q-low)
 
 -- src/lib.rt:82:37
 element-copy-out-self : tie.Need-element-copy-out-self
-element-copy-out-self c = 
+element-copy-out-self c =
     let to = receive-to (c .before .before .before .before .before .before .before .before .before .before .before .before .before .before .before .before .before .before .before .before .args .tables .now) (c .before .before .before .before .before .before .before .before .before .before .before .before .before .before .before .before .before .before .before .before .args .roles) (c .before .before .before .before .before .before .before .before .before .before .before .before .before .before .before .before .before .before .before .before .args .sender) (c .before .before .before .before .before .before .before .before .before .before .before .before .before .before .before .before .before .before .before .before .args .receiver) (c .before .before .before .before .before .before .before .before .before .before .before .before .before .before .before .before .before .before .before .before .args .t1) _ (sym (c .before .before .before .before .before .before .before .before .before .before .before .before .before .judge-receive .ensures) ∙ c .before .before .before .before .before .before .before .before .before .before .before .turn2 .given .1) in
     omega (arith, to .p-low, to .q-low)
 
 -- src/lib.rt:82:37
 sub-self : tie.Need-sub-self
-sub-self c = 
+sub-self c =
     let to = receive-to (c .before .before .before .before .before .before .before .before .before .before .before .before .before .before .before .before .before .before .before .before .before .args .tables .now) (c .before .before .before .before .before .before .before .before .before .before .before .before .before .before .before .before .before .before .before .before .before .args .roles) (c .before .before .before .before .before .before .before .before .before .before .before .before .before .before .before .before .before .before .before .before .before .args .sender) (c .before .before .before .before .before .before .before .before .before .before .before .before .before .before .before .before .before .before .before .before .before .args .receiver) (c .before .before .before .before .before .before .before .before .before .before .before .before .before .before .before .before .before .before .before .before .before .args .t1) _ (sym (c .before .before .before .before .before .before .before .before .before .before .before .before .before .before .judge-receive .ensures) ∙ c .before .before .before .before .before .before .before .before .before .before .before .before .turn2 .given .1) in
     omega (arith, to .p-low, to .q-low, to .received .some-held)
 
 -- src/lib.rt:82:17
 element-write-self : tie.Need-element-write-self
-element-write-self c = 
+element-write-self c =
     let to = receive-to (c .before .before .before .before .before .before .before .before .before .before .before .before .before .before .before .before .before .before .before .before .before .args .tables .now) (c .before .before .before .before .before .before .before .before .before .before .before .before .before .before .before .before .before .before .before .before .before .args .roles) (c .before .before .before .before .before .before .before .before .before .before .before .before .before .before .before .before .before .before .before .before .before .args .sender) (c .before .before .before .before .before .before .before .before .before .before .before .before .before .before .before .before .before .before .before .before .before .args .receiver) (c .before .before .before .before .before .before .before .before .before .before .before .before .before .before .before .before .before .before .before .before .before .args .t1) _ (sym (c .before .before .before .before .before .before .before .before .before .before .before .before .before .before .judge-receive .ensures) ∙ c .before .before .before .before .before .before .before .before .before .before .before .before .turn2 .given .1) in
     omega (arith, to .p-low, to .q-low)
 
 -- src/lib.rt:83:17
 mul-self : tie.Need-mul-self
-mul-self c = 
+mul-self c =
     let to = receive-to (c .before .before .before .before .before .before .before .before .before .before .before .before .before .before .before .before .before .before .before .before .before .args .tables .now) (c .before .before .before .before .before .before .before .before .before .before .before .before .before .before .before .before .before .before .before .before .before .args .roles) (c .before .before .before .before .before .before .before .before .before .before .before .before .before .before .before .before .before .before .before .before .before .args .sender) (c .before .before .before .before .before .before .before .before .before .before .before .before .before .before .before .before .before .before .before .before .before .args .receiver) (c .before .before .before .before .before .before .before .before .before .before .before .before .before .before .before .before .before .before .before .before .before .args .t1) _ (sym (c .before .before .before .before .before .before .before .before .before .before .before .before .before .before .judge-receive .ensures) ∙ c .before .before .before .before .before .before .before .before .before .before .before .before .turn2 .given .1) in
     omega (arith, to .p-low, to .q-low)
 
 -- src/lib.rt:83:17
 element-write-self-2 : tie.Need-element-write-self-2
-element-write-self-2 c = 
+element-write-self-2 c =
     let to = receive-to (c .before .before .before .before .before .before .before .before .before .before .before .before .before .before .before .before .before .before .before .before .before .args .tables .now) (c .before .before .before .before .before .before .before .before .before .before .before .before .before .before .before .before .before .before .before .before .before .args .roles) (c .before .before .before .before .before .before .before .before .before .before .before .before .before .before .before .before .before .before .before .before .before .args .sender) (c .before .before .before .before .before .before .before .before .before .before .before .before .before .before .before .before .before .before .before .before .before .args .receiver) (c .before .before .before .before .before .before .before .before .before .before .before .before .before .before .before .before .before .before .before .before .before .args .t1) _ (sym (c .before .before .before .before .before .before .before .before .before .before .before .before .before .before .judge-receive .ensures) ∙ c .before .before .before .before .before .before .before .before .before .before .before .before .turn2 .given .1) in
     omega (arith, to .p-low, to .q-low)
 
@@ -131,13 +131,13 @@ array-read-t44-2 c = search needs
 
 -- src/lib.rt:70:5
 returns : tie.Need-returns
-returns c = 
+returns c =
     ap (afterReceive (c .before .before .before .before .before .before .before .before .before .before .args .tables .now) (c .before .before .before .before .before .before .before .before .before .before .args .roles) (c .before .before .before .before .before .before .before .before .before .before .args .sender) (c .before .before .before .before .before .before .before .before .before .before .args .receiver) (c .before .before .before .before .before .before .before .before .before .before .args .t1)) (sym (c .before .turn .given .1) ∙ c .before .before .before .judge-receive .ensures)
     ∙ after-receive (c .before .before .before .before .before .before .before .before .before .before .args .tables .now) (c .before .before .before .before .before .before .before .before .before .before .args .roles) (c .before .before .before .before .before .before .before .before .before .before .args .sender) (c .before .before .before .before .before .before .before .before .before .before .args .receiver) (c .before .before .before .before .before .before .before .before .before .before .args .t1)
 
 -- src/lib.rt:70:5
 returns-2 : tie.Need-returns-2
-returns-2 c = 
+returns-2 c =
     let to = receive-to (c .before .before .before .before .before .before .before .before .before .before .before .before .before .before .before .before .before .before .before .before .before .args .tables .now) (c .before .before .before .before .before .before .before .before .before .before .before .before .before .before .before .before .before .before .before .before .before .args .roles) (c .before .before .before .before .before .before .before .before .before .before .before .before .before .before .before .before .before .before .before .before .before .args .sender) (c .before .before .before .before .before .before .before .before .before .before .before .before .before .before .before .before .before .before .before .before .before .args .receiver) (c .before .before .before .before .before .before .before .before .before .before .before .before .before .before .before .before .before .before .before .before .before .args .t1) _ (sym (c .before .before .before .before .before .before .before .before .before .before .before .before .before .before .judge-receive .ensures) ∙ c .before .before .before .before .before .before .before .before .before .before .before .before .turn2 .given .1) in
     taken-read (c .before .before .before .before .before .before .before .before .before .before .before .before .before .before .before .before .before .before .before .before .before .args .tables .now) (c .before .before .before .before .before .before .before .before .before .before .before .before .before .before .before .before .before .before .before .before .before .args .roles) (c .before .before .before .before .before .before .before .before .before .before .before .before .before .before .before .before .before .before .before .before .before .args .sender) (c .before .before .before .before .before .before .before .before .before .before .before .before .before .before .before .before .before .before .before .before .before .args .receiver) (c .before .before .before .before .before .before .before .before .before .before .before .before .before .before .before .before .before .before .before .before .before .args .t1) _ (to .p-low) (to .q-low)
     (sym (length-map (c .before .before .before .before .before .before .before .before .before .before .before .before .before .before .before .before .before .before .before .before .before .args .t1 .labels) (λ x. x)) ∙ c .before .before .before .before .before .before .before .before .before .before .before .before .before .before .before .before .before .before .before .before .before .good .0 .1 .1 .1 .1 .0 .1 .0 .1) (sym (length-map (c .before .before .before .before .before .before .before .before .before .before .before .before .before .before .before .before .before .before .before .before .before .args .t1 .payloads) (λ x. x)) ∙ c .before .before .before .before .before .before .before .before .before .before .before .before .before .before .before .before .before .before .before .before .before .good .0 .1 .1 .1 .1 .1 .0 .1 .0 .1)

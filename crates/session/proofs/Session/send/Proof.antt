@@ -24,25 +24,25 @@ enum-known-turn-2 c = search needs
 
 -- src/lib.rt:57:28
 mul-pair : tie.Need-mul-pair
-mul-pair c = 
+mul-pair c =
     let to = send-to (c .before .before .before .before .before .before .before .before .before .before .args .tables .now) (c .before .before .before .before .before .before .before .before .before .before .args .roles) (c .before .before .before .before .before .before .before .before .before .before .args .sender) (c .before .before .before .before .before .before .before .before .before .before .args .receiver) (c .before .before .before .before .before .before .before .before .before .before .args .t1) _ (c .before .before .before .before .before .before .before .before .before .before .args .label) (sym (c .before .before .before .judge-send .ensures) ∙ c .before .turn2 .given .1) in
     omega (arith, to .p-low, to .q-low)
 
 -- src/lib.rt:57:28
 add-pair : tie.Need-add-pair
-add-pair c = 
+add-pair c =
     let to = send-to (c .before .before .before .before .before .before .before .before .before .before .args .tables .now) (c .before .before .before .before .before .before .before .before .before .before .args .roles) (c .before .before .before .before .before .before .before .before .before .before .args .sender) (c .before .before .before .before .before .before .before .before .before .before .args .receiver) (c .before .before .before .before .before .before .before .before .before .before .args .t1) _ (c .before .before .before .before .before .before .before .before .before .before .args .label) (sym (c .before .before .before .judge-send .ensures) ∙ c .before .turn2 .given .1) in
     omega (arith, to .p-low, to .q-low)
 
 -- src/lib.rt:58:29
 element-copy-out-count : tie.Need-element-copy-out-count
-element-copy-out-count c = 
+element-copy-out-count c =
     let to = send-to (c .before .before .before .before .before .before .before .before .before .before .args .tables .now) (c .before .before .before .before .before .before .before .before .before .before .args .roles) (c .before .before .before .before .before .before .before .before .before .before .args .sender) (c .before .before .before .before .before .before .before .before .before .before .args .receiver) (c .before .before .before .before .before .before .before .before .before .before .args .t1) _ (c .before .before .before .before .before .before .before .before .before .before .args .label) (sym (c .before .before .before .judge-send .ensures) ∙ c .before .turn2 .given .1) in
     omega (arith, to .p-low, to .q-low)
 
 -- src/lib.rt:59:28
 mul-free : tie.Need-mul-free
-mul-free c = 
+mul-free c =
     let to = send-to (c .before .before .before .before .before .before .before .before .before .before .before .args .tables .now) (c .before .before .before .before .before .before .before .before .before .before .before .args .roles) (c .before .before .before .before .before .before .before .before .before .before .before .args .sender) (c .before .before .before .before .before .before .before .before .before .before .before .args .receiver) (c .before .before .before .before .before .before .before .before .before .before .before .args .t1) _ (c .before .before .before .before .before .before .before .before .before .before .before .args .label) (sym (c .before .before .before .before .judge-send .ensures) ∙ c .before .before .turn2 .given .1) in
     omega (arith, to .p-low, to .q-low)
 
@@ -52,67 +52,67 @@ wide-requires c κs = search needs
 
 -- src/lib.rt:59:28
 add-free : tie.Need-add-free
-add-free c = 
+add-free c =
     let to = send-to (c .before .before .before .before .before .before .before .before .before .before .before .before .args .tables .now) (c .before .before .before .before .before .before .before .before .before .before .before .before .args .roles) (c .before .before .before .before .before .before .before .before .before .before .before .before .args .sender) (c .before .before .before .before .before .before .before .before .before .before .before .before .args .receiver) (c .before .before .before .before .before .before .before .before .before .before .before .before .args .t1) _ (c .before .before .before .before .before .before .before .before .before .before .before .before .args .label) (sym (c .before .before .before .before .before .judge-send .ensures) ∙ c .before .before .before .turn2 .given .1) in
     omega (arith, to .p-low, to .q-low, to .sent .room, c .wide .ensures)
 
 -- src/lib.rt:60:37
 cast-self : tie.Need-cast-self
-cast-self c = 
+cast-self c =
     let to = send-to (c .before .before .before .before .before .before .before .before .before .before .before .before .args .tables .now) (c .before .before .before .before .before .before .before .before .before .before .before .before .args .roles) (c .before .before .before .before .before .before .before .before .before .before .before .before .args .sender) (c .before .before .before .before .before .before .before .before .before .before .before .before .args .receiver) (c .before .before .before .before .before .before .before .before .before .before .before .before .args .t1) _ (c .before .before .before .before .before .before .before .before .before .before .before .before .args .label) (sym (c .before .before .before .before .before .judge-send .ensures) ∙ c .before .before .before .turn2 .given .1) in
     omega (arith, to .p-low, to .q-low, to .reached .low)
 
 -- src/lib.rt:60:17
 element-write-self : tie.Need-element-write-self
-element-write-self c = 
+element-write-self c =
     let to = send-to (c .before .before .before .before .before .before .before .before .before .before .before .before .args .tables .now) (c .before .before .before .before .before .before .before .before .before .before .before .before .args .roles) (c .before .before .before .before .before .before .before .before .before .before .before .before .args .sender) (c .before .before .before .before .before .before .before .before .before .before .before .before .args .receiver) (c .before .before .before .before .before .before .before .before .before .before .before .before .args .t1) _ (c .before .before .before .before .before .before .before .before .before .before .before .before .args .label) (sym (c .before .before .before .before .before .judge-send .ensures) ∙ c .before .before .before .turn2 .given .1) in
     omega (arith, to .p-low, to .q-low, to .sent .room, c .wide .ensures)
 
 -- src/lib.rt:61:17
 mul-self : tie.Need-mul-self
-mul-self c = 
+mul-self c =
     let to = send-to (c .before .before .before .before .before .before .before .before .before .before .before .before .args .tables .now) (c .before .before .before .before .before .before .before .before .before .before .before .before .args .roles) (c .before .before .before .before .before .before .before .before .before .before .before .before .args .sender) (c .before .before .before .before .before .before .before .before .before .before .before .before .args .receiver) (c .before .before .before .before .before .before .before .before .before .before .before .before .args .t1) _ (c .before .before .before .before .before .before .before .before .before .before .before .before .args .label) (sym (c .before .before .before .before .before .judge-send .ensures) ∙ c .before .before .before .turn2 .given .1) in
     omega (arith, to .p-low, to .q-low, to .sent .room, c .wide .ensures)
 
 -- src/lib.rt:61:17
 element-write-self-2 : tie.Need-element-write-self-2
-element-write-self-2 c = 
+element-write-self-2 c =
     let to = send-to (c .before .before .before .before .before .before .before .before .before .before .before .before .args .tables .now) (c .before .before .before .before .before .before .before .before .before .before .before .before .args .roles) (c .before .before .before .before .before .before .before .before .before .before .before .before .args .sender) (c .before .before .before .before .before .before .before .before .before .before .before .before .args .receiver) (c .before .before .before .before .before .before .before .before .before .before .before .before .args .t1) _ (c .before .before .before .before .before .before .before .before .before .before .before .before .args .label) (sym (c .before .before .before .before .before .judge-send .ensures) ∙ c .before .before .before .turn2 .given .1) in
     omega (arith, to .p-low, to .q-low, to .sent .room, c .wide .ensures)
 
 -- src/lib.rt:62:37
 add-self : tie.Need-add-self
-add-self c = 
+add-self c =
     let to = send-to (c .before .before .before .before .before .before .before .before .before .before .before .before .args .tables .now) (c .before .before .before .before .before .before .before .before .before .before .before .before .args .roles) (c .before .before .before .before .before .before .before .before .before .before .before .before .args .sender) (c .before .before .before .before .before .before .before .before .before .before .before .before .args .receiver) (c .before .before .before .before .before .before .before .before .before .before .before .before .args .t1) _ (c .before .before .before .before .before .before .before .before .before .before .before .before .args .label) (sym (c .before .before .before .before .before .judge-send .ensures) ∙ c .before .before .before .turn2 .given .1) in
     omega (arith, to .p-low, to .q-low, to .sent .room)
 
 -- src/lib.rt:62:17
 element-write-self-3 : tie.Need-element-write-self-3
-element-write-self-3 c = 
+element-write-self-3 c =
     let to = send-to (c .before .before .before .before .before .before .before .before .before .before .before .before .args .tables .now) (c .before .before .before .before .before .before .before .before .before .before .before .before .args .roles) (c .before .before .before .before .before .before .before .before .before .before .before .before .args .sender) (c .before .before .before .before .before .before .before .before .before .before .before .before .args .receiver) (c .before .before .before .before .before .before .before .before .before .before .before .before .args .t1) _ (c .before .before .before .before .before .before .before .before .before .before .before .before .args .label) (sym (c .before .before .before .before .before .judge-send .ensures) ∙ c .before .before .before .turn2 .given .1) in
     omega (arith, to .p-low, to .q-low)
 
 -- src/lib.rt:63:17
 mul-self-2 : tie.Need-mul-self-2
-mul-self-2 c = 
+mul-self-2 c =
     let to = send-to (c .before .before .before .before .before .before .before .before .before .before .before .before .args .tables .now) (c .before .before .before .before .before .before .before .before .before .before .before .before .args .roles) (c .before .before .before .before .before .before .before .before .before .before .before .before .args .sender) (c .before .before .before .before .before .before .before .before .before .before .before .before .args .receiver) (c .before .before .before .before .before .before .before .before .before .before .before .before .args .t1) _ (c .before .before .before .before .before .before .before .before .before .before .before .before .args .label) (sym (c .before .before .before .before .before .judge-send .ensures) ∙ c .before .before .before .turn2 .given .1) in
     omega (arith, to .p-low, to .q-low)
 
 -- src/lib.rt:63:17
 element-write-self-4 : tie.Need-element-write-self-4
-element-write-self-4 c = 
+element-write-self-4 c =
     let to = send-to (c .before .before .before .before .before .before .before .before .before .before .before .before .args .tables .now) (c .before .before .before .before .before .before .before .before .before .before .before .before .args .roles) (c .before .before .before .before .before .before .before .before .before .before .before .before .args .sender) (c .before .before .before .before .before .before .before .before .before .before .before .before .args .receiver) (c .before .before .before .before .before .before .before .before .before .before .before .before .args .t1) _ (c .before .before .before .before .before .before .before .before .before .before .before .before .args .label) (sym (c .before .before .before .before .before .judge-send .ensures) ∙ c .before .before .before .turn2 .given .1) in
     omega (arith, to .p-low, to .q-low)
 
 -- src/lib.rt:50:5
 returns : tie.Need-returns
-returns c = 
+returns c =
     ap (afterSend (c .before .before .before .before .before .before .before .before .before .before .args .tables .now) (c .before .before .before .before .before .before .before .before .before .before .args .roles) (c .before .before .before .before .before .before .before .before .before .before .args .sender) (c .before .before .before .before .before .before .before .before .before .before .args .receiver) (c .before .before .before .before .before .before .before .before .before .before .args .t1) (c .before .before .before .before .before .before .before .before .before .before .args .label) (c .before .before .before .before .before .before .before .before .before .before .args .payload)) (sym (c .before .turn .given .1) ∙ c .before .before .before .judge-send .ensures)
     ∙ after-send (c .before .before .before .before .before .before .before .before .before .before .args .tables .now) (c .before .before .before .before .before .before .before .before .before .before .args .roles) (c .before .before .before .before .before .before .before .before .before .before .args .sender) (c .before .before .before .before .before .before .before .before .before .before .args .receiver) (c .before .before .before .before .before .before .before .before .before .before .args .t1) (c .before .before .before .before .before .before .before .before .before .before .args .label) (c .before .before .before .before .before .before .before .before .before .before .args .payload)
 
 -- src/lib.rt:50:5
 returns-2 : tie.Need-returns-2
-returns-2 c = 
+returns-2 c =
     rw (c .wide .ensures .0)
     (ap (afterSend (c .before .before .before .before .before .before .before .before .before .before .before .before .args .tables .now) (c .before .before .before .before .before .before .before .before .before .before .before .before .args .roles) (c .before .before .before .before .before .before .before .before .before .before .before .before .args .sender) (c .before .before .before .before .before .before .before .before .before .before .before .before .args .receiver) (c .before .before .before .before .before .before .before .before .before .before .before .before .args .t1) (c .before .before .before .before .before .before .before .before .before .before .before .before .args .label) (c .before .before .before .before .before .before .before .before .before .before .before .before .args .payload)) (sym (c .before .before .before .turn2 .given .1) ∙ c .before .before .before .before .before .judge-send .ensures)
     ∙ after-send (c .before .before .before .before .before .before .before .before .before .before .before .before .args .tables .now) (c .before .before .before .before .before .before .before .before .before .before .before .before .args .roles) (c .before .before .before .before .before .before .before .before .before .before .before .before .args .sender) (c .before .before .before .before .before .before .before .before .before .before .before .before .args .receiver) (c .before .before .before .before .before .before .before .before .before .before .before .before .args .t1) (c .before .before .before .before .before .before .before .before .before .before .before .before .args .label) (c .before .before .before .before .before .before .before .before .before .before .before .before .args .payload))

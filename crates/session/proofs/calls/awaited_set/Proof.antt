@@ -25,7 +25,7 @@ use Rattle.session.proofs.turns.can_act.Reads as can-act-reads
 use Rattle.words.proofs.wide.Reads as wide-reads
 
 abbrev Inv-loop : tie.InvT-loop
-Inv-loop tables roles rows heads counts labels payloads set₀ role₀ start₀ set role start = 
+Inv-loop tables roles rows heads counts labels payloads set₀ role₀ start₀ set role start =
     (role ≤ roles) × (start ≡ role * rows) × (start ≤ role * 256) × (roles ≤ 8) × (rows ≤ 256)
     × (set ≡ setOf (isAwaited base tables roles (stateOf heads counts labels payloads)) role)
 
@@ -35,7 +35,7 @@ abbrev μ-loop : tie.MeasureT-loop
 -- src/calls.rt:85:5
 loop-holds : tie.Need-loop-holds Inv-loop μ-loop
 unfolding sum
-loop-holds c = 
+loop-holds c =
     let b = sized-bounds (c .before .args .tables .now) (c .before .args .roles) _ (good-sized (c .before .args .tables .now) (c .before .args .roles) (c .before .pre .1)) in
     (omega arith, omega (arith, zero-mul (c .before .args .rows)), omega arith, b .1, omega (arith, b .3, c .before .pre .0), refl)
 
@@ -57,7 +57,7 @@ row-at-requires c κs = search needs
 
 -- src/calls.rt:87:12
 can-act-requires : tie.Need-can-act-requires Inv-loop μ-loop
-can-act-requires c κs = 
+can-act-requires c κs =
     low-peer (c .before .before .before .before .before .before .args .tables .now) (c .before .before .before .before .before .before .args .roles) (c .before .before .before .before .before .before .args .rows) (c .before .before .before .before .loop .role) (c .before .before .before .before .loop .start)
     (stateOf (c .before .before .before .before .before .before .args .heads .now) (c .before .before .before .before .before .before .args .counts .now) (c .before .before .before .before .before .before .args .labels .now) (c .before .before .before .before .before .before .args .payloads .now))
     (c .before .before .before .before .before .before .pre .0) (c .before .before .before .before .loop .inv .1) (c .before .wide .ensures .0) (c .row-at .ensures) (c .before .before .before .before .before .before .pre .1) (c .before .before .before .before .before .before .pre .2) (c .before .before .before .loop-test .taken)
@@ -84,22 +84,27 @@ loop-less c = omega arith
 
 -- src/calls.rt:85:5
 loop-again : tie.Need-loop-again Inv-loop μ-loop
-loop-again c = 
+loop-again c =
     let s = stateOf (c .before .before .before .before .before .before .before .before .args .heads .now) (c .before .before .before .before .before .before .before .before .args .counts .now) (c .before .before .before .before .before .before .before .before .args .labels .now) (c .before .before .before .before .before .before .before .before .args .payloads .now) in
     let p = isAwaited base (c .before .before .before .before .before .before .before .before .args .tables .now) (c .before .before .before .before .before .before .before .before .args .roles) s in
     let r : ℕ = c .before .before .before .before .before .before .loop .role in
     let e : c .before .can-act .result ≡ p r =
-      acts-read (c .before .before .before .before .before .before .before .before .args .tables .now) (c .before .before .before .before .before .before .before .before .args .roles) (c .before .before .before .before .before .before .before .before .args .rows) r (c .before .before .before .before .before .before .loop .start) s (c .before .before .before .before .before .before .before .before .pre .0) (c .before .before .before .before .before .before .loop .inv .1) (c .before .before .before .wide .ensures .0) (c .before .before .row-at .ensures) _ (c .before .can-act .ensures) in
-    (omega arith, omega (arith, add-mul (c .before .before .before .before .before .before .loop .role) 1 (c .before .before .before .before .before .before .before .before .args .rows)), omega arith, omega arith, omega arith,
-    rw add-one
-    (⊎-elim
-    (λ w. w .1 ∙ ap (λ (t : ℕ). bitOr t (1 * 2 ^ r % 2 ^ 8)) (c .before .before .before .before .before .before .loop .inv .5) ∙ set-or p r (omega arith) (sym e ∙ w .0 .taken))
-    (λ w. w .1 ∙ c .before .before .before .before .before .before .loop .inv .5 ∙ set-not p r (sym e ∙ w .0 .left))
-    (c .if1 .came)))
+    acts-read (c .before .before .before .before .before .before .before .before .args .tables .now) (c .before .before .before .before .before .before .before .before .args .roles) (c .before .before .before .before .before .before .before .before .args .rows) r (c .before .before .before .before .before .before .loop .start) s (c .before .before .before .before .before .before .before .before .pre .0) (c .before .before .before .before .before .before .loop .inv .1) (c .before .before .before .wide .ensures .0) (c .before .before .row-at .ensures) _ (c .before .can-act .ensures) in (
+      omega arith,
+      omega (arith, add-mul (c .before .before .before .before .before .before .loop .role) 1 (c .before .before .before .before .before .before .before .before .args .rows)),
+      omega arith,
+      omega arith,
+      omega arith,
+      rw add-one
+          (⊎-elim
+          (λ w. w .1 ∙ ap (λ (t : ℕ). bitOr t (1 * 2 ^ r % 2 ^ 8)) (c .before .before .before .before .before .before .loop .inv .5) ∙ set-or p r (omega arith) (sym e ∙ w .0 .taken))
+          (λ w. w .1 ∙ c .before .before .before .before .before .before .loop .inv .5 ∙ set-not p r (sym e ∙ w .0 .left))
+          (c .if1 .came)),
+    )
 
 -- src/calls.rt:78:1
 returns : tie.Need-returns Inv-loop μ-loop
-returns c = 
+returns c =
     let s = stateOf (c .before .before .before .args .heads .now) (c .before .before .before .args .counts .now) (c .before .before .before .args .labels .now) (c .before .before .before .args .payloads .now) in
     let e : c .before .loop .role ≡ c .before .before .before .args .roles = omega arith in
     c .before .loop .inv .5 ∙ ap (setOf (isAwaited base (c .before .before .before .args .tables .now) (c .before .before .before .args .roles) s)) e

@@ -17,7 +17,7 @@ use Rattle.session.proofs.calls.first_heads.Lts as lts
 use Rattle.session.proofs.rows.head.Reads as head-reads
 
 abbrev Inv-loop : tie.InvT-loop
-Inv-loop tables roles rows heads₀ role₀ start₀ heads role start = 
+Inv-loop tables roles rows heads₀ role₀ start₀ heads role start =
     (role ≤ 8) × (start ≡ role * rows) × (start ≤ role * 256) × (heads ≡ firstHeads tables roles role ++ replicate (8 - role) 0)
 
 abbrev μ-loop : tie.MeasureT-loop
@@ -54,18 +54,21 @@ loop-less c = omega arith
 
 -- src/calls.rt:104:5
 loop-again : tie.Need-loop-again Inv-loop μ-loop
-loop-again c = 
-    let left : 8 - c .before .before .loop .role ≡ suc (8 - suc (c .before .before .loop .role)) = omega arith in
-    (omega arith, omega (arith, add-mul (c .before .before .loop .role) 1 (c .before .before .before .before .args .rows)), omega arith,
-    rw add-one
-    (⊎-elim
-    (λ w. w .2 ∙ one-head (c .before .before .before .before .args .tables .now) (c .before .before .before .before .args .roles) (c .before .before .before .before .args .rows) _ _ (c .before .before .loop .start) _ left (c .before .before .loop .inv .3) (c .before .before .before .before .pre .0) (c .before .before .loop .inv .1) (w .0 .taken) _ (w .1 .ensures))
-    (λ w. w .1 ∙ no-head (c .before .before .before .before .args .tables .now) (c .before .before .before .before .args .roles) (c .before .before .before .before .args .rows) _ _ (c .before .before .loop .start) _ left (c .before .before .loop .inv .3) (w .0 .left))
-    (c .if1 .came)))
+loop-again c =
+    let left : 8 - c .before .before .loop .role ≡ suc (8 - suc (c .before .before .loop .role)) = omega arith in (
+      omega arith,
+      omega (arith, add-mul (c .before .before .loop .role) 1 (c .before .before .before .before .args .rows)),
+      omega arith,
+      rw add-one
+          (⊎-elim
+          (λ w. w .2 ∙ one-head (c .before .before .before .before .args .tables .now) (c .before .before .before .before .args .roles) (c .before .before .before .before .args .rows) _ _ (c .before .before .loop .start) _ left (c .before .before .loop .inv .3) (c .before .before .before .before .pre .0) (c .before .before .loop .inv .1) (w .0 .taken) _ (w .1 .ensures))
+          (λ w. w .1 ∙ no-head (c .before .before .before .before .args .tables .now) (c .before .before .before .before .args .roles) (c .before .before .before .before .args .rows) _ _ (c .before .before .loop .start) _ left (c .before .before .loop .inv .3) (w .0 .left))
+          (c .if1 .came)),
+    )
 
 -- src/calls.rt:97:1
 returns : tie.Need-returns Inv-loop μ-loop
-returns c = 
+returns c =
     let e : c .before .loop .role ≡ 8 = omega arith in
     rw e at (c .before .loop .inv .3) ∙ append-nil _
 

@@ -33,13 +33,13 @@ are-pair-requires c κs = search needs
 -- src/calls.rt:68:9
 returns-2 : tie.Need-returns-2
 unfolding receiveJudged
-returns-2 c = 
+returns-2 c =
     let st = ground-stands (c .before .before .before .before .before .before .args .tables .now) (c .before .before .before .before .before .before .args .roles) (stateOf (c .before .before .before .before .before .before .args .heads .now) (c .before .before .before .before .before .before .args .counts .now) (c .before .before .before .before .before .before .args .labels .now) (c .before .before .before .before .before .before .args .payloads .now)) (c .before .before .before .before .standing .ensures) (c .before .before .if1 .left) in
     not-pair (c .before .before .before .before .before .before .args .tables .now) (c .before .before .before .before .before .before .args .roles) _ (stateOf (c .before .before .before .before .before .before .args .heads .now) (c .before .before .before .before .before .before .args .counts .now) (c .before .before .before .before .before .before .args .labels .now) (c .before .before .before .before .before .before .args .payloads .now)) st (c .before .before .before .before .before .before .args .sender) (c .before .before .before .before .before .before .args .receiver) _ (sym (c .before .are-pair .ensures) ∙ not-true (c .before .are-pair .result) (c .if2 .taken))
 
 -- src/calls.rt:70:17
 mul-start : tie.Need-mul-start
-mul-start c = 
+mul-start c =
     let st = ground-stands (c .before .before .before .before .before .before .before .args .tables .now) (c .before .before .before .before .before .before .before .args .roles) (stateOf (c .before .before .before .before .before .before .before .args .heads .now) (c .before .before .before .before .before .before .before .args .counts .now) (c .before .before .before .before .before .before .before .args .labels .now) (c .before .before .before .before .before .before .before .args .payloads .now)) (c .before .before .before .before .before .standing .ensures) (c .before .before .before .if1 .left) in
     let two = sym (c .before .before .are-pair .ensures) ∙ not-false (c .before .before .are-pair .result) (c .before .if2 .left) in
     let b = stood-bounds (c .before .before .before .before .before .before .before .args .tables .now) (c .before .before .before .before .before .before .before .args .roles) _ (stateOf (c .before .before .before .before .before .before .before .args .heads .now) (c .before .before .before .before .before .before .before .args .counts .now) (c .before .before .before .before .before .before .before .args .labels .now) (c .before .before .before .before .before .before .before .args .payloads .now)) st in
@@ -48,7 +48,7 @@ mul-start c =
 
 -- src/calls.rt:71:56
 mul-wide : tie.Need-mul-wide
-mul-wide c = 
+mul-wide c =
     let st = ground-stands (c .before .before .before .before .before .before .before .args .tables .now) (c .before .before .before .before .before .before .before .args .roles) (stateOf (c .before .before .before .before .before .before .before .args .heads .now) (c .before .before .before .before .before .before .before .args .counts .now) (c .before .before .before .before .before .before .before .args .labels .now) (c .before .before .before .before .before .before .before .args .payloads .now)) (c .before .before .before .before .before .standing .ensures) (c .before .before .before .if1 .left) in
     let two = sym (c .before .before .are-pair .ensures) ∙ not-false (c .before .before .are-pair .result) (c .before .if2 .left) in
     let b = stood-bounds (c .before .before .before .before .before .before .before .args .tables .now) (c .before .before .before .before .before .before .before .args .roles) _ (stateOf (c .before .before .before .before .before .before .before .args .heads .now) (c .before .before .before .before .before .before .before .args .counts .now) (c .before .before .before .before .before .before .before .args .labels .now) (c .before .before .before .before .before .before .before .args .payloads .now)) st in
@@ -57,7 +57,7 @@ mul-wide c =
 
 -- src/calls.rt:71:56
 element-copy-out-wide : tie.Need-element-copy-out-wide
-element-copy-out-wide c = 
+element-copy-out-wide c =
     let st = ground-stands (c .before .before .before .before .before .before .before .args .tables .now) (c .before .before .before .before .before .before .before .args .roles) (stateOf (c .before .before .before .before .before .before .before .args .heads .now) (c .before .before .before .before .before .before .before .args .counts .now) (c .before .before .before .before .before .before .before .args .labels .now) (c .before .before .before .before .before .before .before .args .payloads .now)) (c .before .before .before .before .before .standing .ensures) (c .before .before .before .if1 .left) in
     let two = sym (c .before .before .are-pair .ensures) ∙ not-false (c .before .before .are-pair .result) (c .before .if2 .left) in
     let b = stood-bounds (c .before .before .before .before .before .before .before .args .tables .now) (c .before .before .before .before .before .before .before .args .roles) _ (stateOf (c .before .before .before .before .before .before .before .args .heads .now) (c .before .before .before .before .before .before .before .args .counts .now) (c .before .before .before .before .before .before .before .args .labels .now) (c .before .before .before .before .before .before .before .args .payloads .now)) st in
@@ -74,7 +74,7 @@ row-at-requires c κs = search needs
 
 -- src/calls.rt:72:16
 mul-pair : tie.Need-mul-pair
-mul-pair c = 
+mul-pair c =
     let st = ground-stands (c .before .before .before .before .before .before .before .before .before .before .args .tables .now) (c .before .before .before .before .before .before .before .before .before .before .args .roles) (stateOf (c .before .before .before .before .before .before .before .before .before .before .args .heads .now) (c .before .before .before .before .before .before .before .before .before .before .args .counts .now) (c .before .before .before .before .before .before .before .before .before .before .args .labels .now) (c .before .before .before .before .before .before .before .before .before .before .args .payloads .now)) (c .before .before .before .before .before .before .before .before .standing .ensures) (c .before .before .before .before .before .before .if1 .left) in
     let two = sym (c .before .before .before .before .before .are-pair .ensures) ∙ not-false (c .before .before .before .before .before .are-pair .result) (c .before .before .before .before .if2 .left) in
     let b = stood-bounds (c .before .before .before .before .before .before .before .before .before .before .args .tables .now) (c .before .before .before .before .before .before .before .before .before .before .args .roles) _ (stateOf (c .before .before .before .before .before .before .before .before .before .before .args .heads .now) (c .before .before .before .before .before .before .before .before .before .before .args .counts .now) (c .before .before .before .before .before .before .before .before .before .before .args .labels .now) (c .before .before .before .before .before .before .before .before .before .before .args .payloads .now)) st in
@@ -83,7 +83,7 @@ mul-pair c =
 
 -- src/calls.rt:72:16
 add-pair : tie.Need-add-pair
-add-pair c = 
+add-pair c =
     let st = ground-stands (c .before .before .before .before .before .before .before .before .before .before .args .tables .now) (c .before .before .before .before .before .before .before .before .before .before .args .roles) (stateOf (c .before .before .before .before .before .before .before .before .before .before .args .heads .now) (c .before .before .before .before .before .before .before .before .before .before .args .counts .now) (c .before .before .before .before .before .before .before .before .before .before .args .labels .now) (c .before .before .before .before .before .before .before .before .before .before .args .payloads .now)) (c .before .before .before .before .before .before .before .before .standing .ensures) (c .before .before .before .before .before .before .if1 .left) in
     let two = sym (c .before .before .before .before .before .are-pair .ensures) ∙ not-false (c .before .before .before .before .before .are-pair .result) (c .before .before .before .before .if2 .left) in
     let b = stood-bounds (c .before .before .before .before .before .before .before .before .before .before .args .tables .now) (c .before .before .before .before .before .before .before .before .before .before .args .roles) _ (stateOf (c .before .before .before .before .before .before .before .before .before .before .args .heads .now) (c .before .before .before .before .before .before .before .before .before .before .args .counts .now) (c .before .before .before .before .before .before .before .before .before .before .args .labels .now) (c .before .before .before .before .before .before .before .before .before .before .args .payloads .now)) st in
@@ -92,7 +92,7 @@ add-pair c =
 
 -- src/calls.rt:73:24
 mul-label : tie.Need-mul-label
-mul-label c = 
+mul-label c =
     let st = ground-stands (c .before .before .before .before .before .before .before .before .before .before .args .tables .now) (c .before .before .before .before .before .before .before .before .before .before .args .roles) (stateOf (c .before .before .before .before .before .before .before .before .before .before .args .heads .now) (c .before .before .before .before .before .before .before .before .before .before .args .counts .now) (c .before .before .before .before .before .before .before .before .before .before .args .labels .now) (c .before .before .before .before .before .before .before .before .before .before .args .payloads .now)) (c .before .before .before .before .before .before .before .before .standing .ensures) (c .before .before .before .before .before .before .if1 .left) in
     let two = sym (c .before .before .before .before .before .are-pair .ensures) ∙ not-false (c .before .before .before .before .before .are-pair .result) (c .before .before .before .before .if2 .left) in
     let b = stood-bounds (c .before .before .before .before .before .before .before .before .before .before .args .tables .now) (c .before .before .before .before .before .before .before .before .before .before .args .roles) _ (stateOf (c .before .before .before .before .before .before .before .before .before .before .args .heads .now) (c .before .before .before .before .before .before .before .before .before .before .args .counts .now) (c .before .before .before .before .before .before .before .before .before .before .args .labels .now) (c .before .before .before .before .before .before .before .before .before .before .args .payloads .now)) st in
@@ -101,7 +101,7 @@ mul-label c =
 
 -- src/calls.rt:73:17
 element-copy-out-label : tie.Need-element-copy-out-label
-element-copy-out-label c = 
+element-copy-out-label c =
     let st = ground-stands (c .before .before .before .before .before .before .before .before .before .before .args .tables .now) (c .before .before .before .before .before .before .before .before .before .before .args .roles) (stateOf (c .before .before .before .before .before .before .before .before .before .before .args .heads .now) (c .before .before .before .before .before .before .before .before .before .before .args .counts .now) (c .before .before .before .before .before .before .before .before .before .before .args .labels .now) (c .before .before .before .before .before .before .before .before .before .before .args .payloads .now)) (c .before .before .before .before .before .before .before .before .standing .ensures) (c .before .before .before .before .before .before .if1 .left) in
     let two = sym (c .before .before .before .before .before .are-pair .ensures) ∙ not-false (c .before .before .before .before .before .are-pair .result) (c .before .before .before .before .if2 .left) in
     let b = stood-bounds (c .before .before .before .before .before .before .before .before .before .before .args .tables .now) (c .before .before .before .before .before .before .before .before .before .before .args .roles) _ (stateOf (c .before .before .before .before .before .before .before .before .before .before .args .heads .now) (c .before .before .before .before .before .before .before .before .before .before .args .counts .now) (c .before .before .before .before .before .before .before .before .before .before .args .labels .now) (c .before .before .before .before .before .before .before .before .before .before .args .payloads .now)) st in
@@ -110,7 +110,7 @@ element-copy-out-label c =
 
 -- src/calls.rt:74:67
 element-copy-out-receive-turn : tie.Need-element-copy-out-receive-turn
-element-copy-out-receive-turn c = 
+element-copy-out-receive-turn c =
     let st = ground-stands (c .before .before .before .before .before .before .before .before .before .before .before .args .tables .now) (c .before .before .before .before .before .before .before .before .before .before .before .args .roles) (stateOf (c .before .before .before .before .before .before .before .before .before .before .before .args .heads .now) (c .before .before .before .before .before .before .before .before .before .before .before .args .counts .now) (c .before .before .before .before .before .before .before .before .before .before .before .args .labels .now) (c .before .before .before .before .before .before .before .before .before .before .before .args .payloads .now)) (c .before .before .before .before .before .before .before .before .before .standing .ensures) (c .before .before .before .before .before .before .before .if1 .left) in
     let two = sym (c .before .before .before .before .before .before .are-pair .ensures) ∙ not-false (c .before .before .before .before .before .before .are-pair .result) (c .before .before .before .before .before .if2 .left) in
     let b = stood-bounds (c .before .before .before .before .before .before .before .before .before .before .before .args .tables .now) (c .before .before .before .before .before .before .before .before .before .before .before .args .roles) _ (stateOf (c .before .before .before .before .before .before .before .before .before .before .before .args .heads .now) (c .before .before .before .before .before .before .before .before .before .before .before .args .counts .now) (c .before .before .before .before .before .before .before .before .before .before .before .args .labels .now) (c .before .before .before .before .before .before .before .before .before .before .before .args .payloads .now)) st in
@@ -123,7 +123,7 @@ receive-turn-requires c κs = search needs
 
 -- src/calls.rt:60:1
 returns-3 : tie.Need-returns-3
-returns-3 c = 
+returns-3 c =
     let st = ground-stands (c .before .before .before .before .before .before .before .before .before .before .before .before .before .args .tables .now) (c .before .before .before .before .before .before .before .before .before .before .before .before .before .args .roles) (stateOf (c .before .before .before .before .before .before .before .before .before .before .before .before .before .args .heads .now) (c .before .before .before .before .before .before .before .before .before .before .before .before .before .args .counts .now) (c .before .before .before .before .before .before .before .before .before .before .before .before .before .args .labels .now) (c .before .before .before .before .before .before .before .before .before .before .before .before .before .args .payloads .now)) (c .before .before .before .before .before .before .before .before .before .before .before .standing .ensures) (c .before .before .before .before .before .before .before .before .before .if1 .left) in
     let two = sym (c .before .before .before .before .before .before .before .before .are-pair .ensures) ∙ not-false (c .before .before .before .before .before .before .before .before .are-pair .result) (c .before .before .before .before .before .before .before .if2 .left) in
     c .receive-turn .ensures ∙ receive-judged (c .before .before .before .before .before .before .before .before .before .before .before .before .before .args .tables .now) (c .before .before .before .before .before .before .before .before .before .before .before .before .before .args .roles) _ (stateOf (c .before .before .before .before .before .before .before .before .before .before .before .before .before .args .heads .now) (c .before .before .before .before .before .before .before .before .before .before .before .before .before .args .counts .now) (c .before .before .before .before .before .before .before .before .before .before .before .before .before .args .labels .now) (c .before .before .before .before .before .before .before .before .before .before .before .before .before .args .payloads .now)) st (c .before .before .before .before .before .before .before .before .before .before .before .before .before .args .sender) (c .before .before .before .before .before .before .before .before .before .before .before .before .before .args .receiver) two (c .before .before .before .before .wide .ensures .0) (c .before .before .before .row-at .ensures)

@@ -33,13 +33,13 @@ are-pair-requires c κs = search needs
 -- src/calls.rt:51:9
 returns-2 : tie.Need-returns-2
 unfolding sendJudged
-returns-2 c = 
+returns-2 c =
     let st = ground-stands (c .before .before .before .before .before .before .args .tables .now) (c .before .before .before .before .before .before .args .roles) (stateOf (c .before .before .before .before .before .before .args .heads .now) (c .before .before .before .before .before .before .args .counts .now) (c .before .before .before .before .before .before .args .labels .now) (c .before .before .before .before .before .before .args .payloads .now)) (c .before .before .before .before .standing .ensures) (c .before .before .if1 .left) in
     not-pair (c .before .before .before .before .before .before .args .tables .now) (c .before .before .before .before .before .before .args .roles) _ (stateOf (c .before .before .before .before .before .before .args .heads .now) (c .before .before .before .before .before .before .args .counts .now) (c .before .before .before .before .before .before .args .labels .now) (c .before .before .before .before .before .before .args .payloads .now)) st (c .before .before .before .before .before .before .args .sender) (c .before .before .before .before .before .before .args .receiver) _ (sym (c .before .are-pair .ensures) ∙ not-true (c .before .are-pair .result) (c .if2 .taken))
 
 -- src/calls.rt:53:17
 mul-start : tie.Need-mul-start
-mul-start c = 
+mul-start c =
     let st = ground-stands (c .before .before .before .before .before .before .before .args .tables .now) (c .before .before .before .before .before .before .before .args .roles) (stateOf (c .before .before .before .before .before .before .before .args .heads .now) (c .before .before .before .before .before .before .before .args .counts .now) (c .before .before .before .before .before .before .before .args .labels .now) (c .before .before .before .before .before .before .before .args .payloads .now)) (c .before .before .before .before .before .standing .ensures) (c .before .before .before .if1 .left) in
     let two = sym (c .before .before .are-pair .ensures) ∙ not-false (c .before .before .are-pair .result) (c .before .if2 .left) in
     let b = stood-bounds (c .before .before .before .before .before .before .before .args .tables .now) (c .before .before .before .before .before .before .before .args .roles) _ (stateOf (c .before .before .before .before .before .before .before .args .heads .now) (c .before .before .before .before .before .before .before .args .counts .now) (c .before .before .before .before .before .before .before .args .labels .now) (c .before .before .before .before .before .before .before .args .payloads .now)) st in
@@ -48,7 +48,7 @@ mul-start c =
 
 -- src/calls.rt:54:56
 mul-wide : tie.Need-mul-wide
-mul-wide c = 
+mul-wide c =
     let st = ground-stands (c .before .before .before .before .before .before .before .args .tables .now) (c .before .before .before .before .before .before .before .args .roles) (stateOf (c .before .before .before .before .before .before .before .args .heads .now) (c .before .before .before .before .before .before .before .args .counts .now) (c .before .before .before .before .before .before .before .args .labels .now) (c .before .before .before .before .before .before .before .args .payloads .now)) (c .before .before .before .before .before .standing .ensures) (c .before .before .before .if1 .left) in
     let two = sym (c .before .before .are-pair .ensures) ∙ not-false (c .before .before .are-pair .result) (c .before .if2 .left) in
     let b = stood-bounds (c .before .before .before .before .before .before .before .args .tables .now) (c .before .before .before .before .before .before .before .args .roles) _ (stateOf (c .before .before .before .before .before .before .before .args .heads .now) (c .before .before .before .before .before .before .before .args .counts .now) (c .before .before .before .before .before .before .before .args .labels .now) (c .before .before .before .before .before .before .before .args .payloads .now)) st in
@@ -57,7 +57,7 @@ mul-wide c =
 
 -- src/calls.rt:54:56
 element-copy-out-wide : tie.Need-element-copy-out-wide
-element-copy-out-wide c = 
+element-copy-out-wide c =
     let st = ground-stands (c .before .before .before .before .before .before .before .args .tables .now) (c .before .before .before .before .before .before .before .args .roles) (stateOf (c .before .before .before .before .before .before .before .args .heads .now) (c .before .before .before .before .before .before .before .args .counts .now) (c .before .before .before .before .before .before .before .args .labels .now) (c .before .before .before .before .before .before .before .args .payloads .now)) (c .before .before .before .before .before .standing .ensures) (c .before .before .before .if1 .left) in
     let two = sym (c .before .before .are-pair .ensures) ∙ not-false (c .before .before .are-pair .result) (c .before .if2 .left) in
     let b = stood-bounds (c .before .before .before .before .before .before .before .args .tables .now) (c .before .before .before .before .before .before .before .args .roles) _ (stateOf (c .before .before .before .before .before .before .before .args .heads .now) (c .before .before .before .before .before .before .before .args .counts .now) (c .before .before .before .before .before .before .before .args .labels .now) (c .before .before .before .before .before .before .before .args .payloads .now)) st in
@@ -74,7 +74,7 @@ row-at-requires c κs = search needs
 
 -- src/calls.rt:55:24
 mul-count : tie.Need-mul-count
-mul-count c = 
+mul-count c =
     let st = ground-stands (c .before .before .before .before .before .before .before .before .before .before .args .tables .now) (c .before .before .before .before .before .before .before .before .before .before .args .roles) (stateOf (c .before .before .before .before .before .before .before .before .before .before .args .heads .now) (c .before .before .before .before .before .before .before .before .before .before .args .counts .now) (c .before .before .before .before .before .before .before .before .before .before .args .labels .now) (c .before .before .before .before .before .before .before .before .before .before .args .payloads .now)) (c .before .before .before .before .before .before .before .before .standing .ensures) (c .before .before .before .before .before .before .if1 .left) in
     let two = sym (c .before .before .before .before .before .are-pair .ensures) ∙ not-false (c .before .before .before .before .before .are-pair .result) (c .before .before .before .before .if2 .left) in
     let b = stood-bounds (c .before .before .before .before .before .before .before .before .before .before .args .tables .now) (c .before .before .before .before .before .before .before .before .before .before .args .roles) _ (stateOf (c .before .before .before .before .before .before .before .before .before .before .args .heads .now) (c .before .before .before .before .before .before .before .before .before .before .args .counts .now) (c .before .before .before .before .before .before .before .before .before .before .args .labels .now) (c .before .before .before .before .before .before .before .before .before .before .args .payloads .now)) st in
@@ -83,7 +83,7 @@ mul-count c =
 
 -- src/calls.rt:55:24
 add-count : tie.Need-add-count
-add-count c = 
+add-count c =
     let st = ground-stands (c .before .before .before .before .before .before .before .before .before .before .args .tables .now) (c .before .before .before .before .before .before .before .before .before .before .args .roles) (stateOf (c .before .before .before .before .before .before .before .before .before .before .args .heads .now) (c .before .before .before .before .before .before .before .before .before .before .args .counts .now) (c .before .before .before .before .before .before .before .before .before .before .args .labels .now) (c .before .before .before .before .before .before .before .before .before .before .args .payloads .now)) (c .before .before .before .before .before .before .before .before .standing .ensures) (c .before .before .before .before .before .before .if1 .left) in
     let two = sym (c .before .before .before .before .before .are-pair .ensures) ∙ not-false (c .before .before .before .before .before .are-pair .result) (c .before .before .before .before .if2 .left) in
     let b = stood-bounds (c .before .before .before .before .before .before .before .before .before .before .args .tables .now) (c .before .before .before .before .before .before .before .before .before .before .args .roles) _ (stateOf (c .before .before .before .before .before .before .before .before .before .before .args .heads .now) (c .before .before .before .before .before .before .before .before .before .before .args .counts .now) (c .before .before .before .before .before .before .before .before .before .before .args .labels .now) (c .before .before .before .before .before .before .before .before .before .before .args .payloads .now)) st in
@@ -92,7 +92,7 @@ add-count c =
 
 -- src/calls.rt:55:17
 element-copy-out-count : tie.Need-element-copy-out-count
-element-copy-out-count c = 
+element-copy-out-count c =
     let st = ground-stands (c .before .before .before .before .before .before .before .before .before .before .args .tables .now) (c .before .before .before .before .before .before .before .before .before .before .args .roles) (stateOf (c .before .before .before .before .before .before .before .before .before .before .args .heads .now) (c .before .before .before .before .before .before .before .before .before .before .args .counts .now) (c .before .before .before .before .before .before .before .before .before .before .args .labels .now) (c .before .before .before .before .before .before .before .before .before .before .args .payloads .now)) (c .before .before .before .before .before .before .before .before .standing .ensures) (c .before .before .before .before .before .before .if1 .left) in
     let two = sym (c .before .before .before .before .before .are-pair .ensures) ∙ not-false (c .before .before .before .before .before .are-pair .result) (c .before .before .before .before .if2 .left) in
     let b = stood-bounds (c .before .before .before .before .before .before .before .before .before .before .args .tables .now) (c .before .before .before .before .before .before .before .before .before .before .args .roles) _ (stateOf (c .before .before .before .before .before .before .before .before .before .before .args .heads .now) (c .before .before .before .before .before .before .before .before .before .before .args .counts .now) (c .before .before .before .before .before .before .before .before .before .before .args .labels .now) (c .before .before .before .before .before .before .before .before .before .before .args .payloads .now)) st in
@@ -105,7 +105,7 @@ send-turn-requires c κs = search needs
 
 -- src/calls.rt:43:1
 returns-3 : tie.Need-returns-3
-returns-3 c = 
+returns-3 c =
     let st = ground-stands (c .before .before .before .before .before .before .before .before .before .before .before .before .args .tables .now) (c .before .before .before .before .before .before .before .before .before .before .before .before .args .roles) (stateOf (c .before .before .before .before .before .before .before .before .before .before .before .before .args .heads .now) (c .before .before .before .before .before .before .before .before .before .before .before .before .args .counts .now) (c .before .before .before .before .before .before .before .before .before .before .before .before .args .labels .now) (c .before .before .before .before .before .before .before .before .before .before .before .before .args .payloads .now)) (c .before .before .before .before .before .before .before .before .before .before .standing .ensures) (c .before .before .before .before .before .before .before .before .if1 .left) in
     let two = sym (c .before .before .before .before .before .before .before .are-pair .ensures) ∙ not-false (c .before .before .before .before .before .before .before .are-pair .result) (c .before .before .before .before .before .before .if2 .left) in
     c .send-turn .ensures ∙ send-judged (c .before .before .before .before .before .before .before .before .before .before .before .before .args .tables .now) (c .before .before .before .before .before .before .before .before .before .before .before .before .args .roles) _ (stateOf (c .before .before .before .before .before .before .before .before .before .before .before .before .args .heads .now) (c .before .before .before .before .before .before .before .before .before .before .before .before .args .counts .now) (c .before .before .before .before .before .before .before .before .before .before .before .before .args .labels .now) (c .before .before .before .before .before .before .before .before .before .before .before .before .args .payloads .now)) st (c .before .before .before .before .before .before .before .before .before .before .before .before .args .sender) (c .before .before .before .before .before .before .before .before .before .before .before .before .args .receiver) two (c .before .before .before .before .before .before .before .before .before .before .before .before .args .label) (c .before .before .before .wide .ensures .0) (c .before .before .row-at .ensures)

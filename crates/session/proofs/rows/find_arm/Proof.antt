@@ -41,7 +41,7 @@ row-at-requires c κs = search needs
 
 -- src/rows.rt:93:13
 returns-2 : tie.Need-returns-2 Inv-loop μ-loop
-returns-2 c = 
+returns-2 c =
     let e : c .before .before .before .before .before .before .loop .left ≡ suc (c .before .before .before .before .before .before .loop .left - 1) = omega arith in
     sym (ap foundOf (c .before .before .before .before .before .before .loop .inv ∙ find-end (c .before .before .before .before .before .before .before .before .args .tables .now) (c .before .before .before .before .before .before .before .before .args .start) (c .before .before .before .before .before .before .before .before .args .label) e (c .before .before .before .before .if1 .left) (c .before .before .before .wide .ensures .0) (c .before .before .row-at .ensures) (c .if2 .taken)))
 
@@ -51,7 +51,7 @@ wide-requires-2 c κs = search needs
 
 -- src/rows.rt:96:13
 returns-3 : tie.Need-returns-3 Inv-loop μ-loop
-returns-3 c = 
+returns-3 c =
     let e : c .before .before .before .before .before .before .before .before .loop .left ≡ suc (c .before .before .before .before .before .before .before .before .loop .left - 1) = omega arith in
     sym (ap foundOf (c .before .before .before .before .before .before .before .before .loop .inv ∙ find-here (c .before .before .before .before .before .before .before .before .before .before .args .tables .now) (c .before .before .before .before .before .before .before .before .before .before .args .start) (c .before .before .before .before .before .before .before .before .before .before .args .label) e (c .before .before .before .before .before .before .if1 .left) (c .before .before .before .before .before .wide .ensures .0) (c .before .before .before .before .row-at .ensures) (c .before .before .if2 .left) (sym (c .before .wide2 .ensures .0) ∙ c .if3 .taken)))
 
@@ -65,7 +65,7 @@ loop-less c = omega arith
 
 -- src/rows.rt:87:5
 loop-again : tie.Need-loop-again Inv-loop μ-loop
-loop-again c = 
+loop-again c =
     let e : c .before .before .before .before .before .before .before .before .loop .left ≡ suc (c .before .before .before .before .before .before .before .before .loop .left - 1) = omega arith in
     c .before .before .before .before .before .before .before .before .loop .inv ∙ find-on (c .before .before .before .before .before .before .before .before .before .before .args .tables .now) (c .before .before .before .before .before .before .before .before .before .before .args .start) (c .before .before .before .before .before .before .before .before .before .before .args .label) e (c .before .before .before .before .before .before .if1 .left) (c .before .before .before .before .before .wide .ensures .0) (c .before .before .before .before .row-at .ensures) (c .before .before .if2 .left) (λ q. c .if3 .left (c .before .wide2 .ensures .0 ∙ q))
 

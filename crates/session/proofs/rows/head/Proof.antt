@@ -34,7 +34,7 @@ row-at-requires c κs = search needs
 
 -- src/rows.rt:74:18
 returns : tie.Need-returns Inv-loop μ-loop
-returns c = 
+returns c =
     let e : c .before .before .before .before .loop .left ≡ suc (c .before .before .before .before .loop .left - 1) = omega arith in
     sym (c .before .before .before .before .loop .inv ∙ follow-stays (c .before .before .before .before .before .before .args .tables .now) (c .before .before .before .before .before .before .args .start) e (c .before .before .wide .ensures .0) (c .before .row-at .ensures) (c .match .rest .0 .1) (c .match .rest .1))
 
@@ -48,7 +48,7 @@ loop-less c = omega arith
 
 -- src/rows.rt:68:5
 loop-again : tie.Need-loop-again Inv-loop μ-loop
-loop-again c = 
+loop-again c =
     let e : c .before .before .before .before .loop .left ≡ suc (c .before .before .before .before .loop .left - 1) = omega arith in
     ⊎-elim
     (λ w. rw (w .1) (c .before .before .before .before .loop .inv ∙ follow-loop (c .before .before .before .before .before .before .args .tables .now) (c .before .before .before .before .before .before .args .start) e (c .before .before .wide .ensures .0) (c .before .row-at .ensures) (w .0 .keys1)))

@@ -18,7 +18,7 @@ use Rattle.session.proofs.state.heads_good.Lts as lts
 use Rattle.session.proofs.state.head_good.Reads as head-good-reads
 
 abbrev Inv-loop : tie.InvT-loop
-Inv-loop tables roles rows heads role₀ start₀ role start = 
+Inv-loop tables roles rows heads role₀ start₀ role start =
     (role ≤ 8) × (start ≡ role * rows) × (start ≤ role * 256)
     × ((k : ℕ) → k < role → headGoodAt tables roles rows (k * rows) k (getD heads k 0) ≡ true)
 
@@ -43,7 +43,7 @@ head-good-requires c κs = search needs
 
 -- src/state.rt:52:13
 returns : tie.Need-returns Inv-loop μ-loop
-returns c = 
+returns c =
     sym
     (every-fails _ _ (c .before .before .before .before .loop .role) (omega arith)
     (sym (head-start (c .before .before .before .before .before .before .args .tables .now) _ _ _ _ _ (c .before .before .before .before .loop .inv .1)) ∙ sym (c .before .head-good .ensures) ∙ not-true _ (c .if1 .taken)))
@@ -62,9 +62,12 @@ loop-less c = omega arith
 
 -- src/state.rt:50:5
 loop-again : tie.Need-loop-again Inv-loop μ-loop
-loop-again c = 
-    (omega arith, omega (arith, add-mul (c .before .before .before .before .loop .role) 1 (c .before .before .before .before .before .before .args .rows)), omega arith,
-    below-more _ _ (c .before .before .before .before .loop .inv .3) (sym (head-start (c .before .before .before .before .before .before .args .tables .now) _ _ _ _ _ (c .before .before .before .before .loop .inv .1)) ∙ sym (c .before .head-good .ensures) ∙ not-false _ (c .if1 .left)))
+loop-again c = (
+  omega arith,
+  omega (arith, add-mul (c .before .before .before .before .loop .role) 1 (c .before .before .before .before .before .before .args .rows)),
+  omega arith,
+  below-more _ _ (c .before .before .before .before .loop .inv .3) (sym (head-start (c .before .before .before .before .before .before .args .tables .now) _ _ _ _ _ (c .before .before .before .before .loop .inv .1)) ∙ sym (c .before .head-good .ensures) ∙ not-false _ (c .if1 .left)),
+)
 
 -- src/state.rt:44:1
 returns-2 : tie.Need-returns-2 Inv-loop μ-loop

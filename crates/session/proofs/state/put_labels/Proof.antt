@@ -58,7 +58,7 @@ element-write-labels-4 c = search needs
 
 -- src/state.rt:80:1
 returns : tie.Need-returns
-returns c = 
+returns c =
     four-sets (c .args .labels .now) (c .args .pair * 4) (getD (c .args .t3) 0 0) (getD (c .args .t3) 1 0) (getD (c .args .t3) 2 0) (getD (c .args .t3) 3 0)
 
 pub put-labels-spec : {M : Type 1} → statement M

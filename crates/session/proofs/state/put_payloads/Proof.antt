@@ -74,7 +74,7 @@ element-write-payloads-4 c = search needs
 
 -- src/state.rt:92:1
 returns : tie.Need-returns
-returns c = 
+returns c =
     four-sets (c .args .payloads .now) (c .args .pair * 4) (getD (c .args .t3) 0 0) (getD (c .args .t3) 1 0) (getD (c .args .t3) 2 0) (getD (c .args .t3) 3 0)
 
 pub put-payloads-spec : {M : Type 1} → statement M

@@ -89,7 +89,7 @@ slot-good-requires-4 c κs = search needs
 
 -- src/state.rt:89:1
 returns : tie.Need-returns
-returns c = 
+returns c =
     queue-read (c .before .before .before .before .before .before .before .before .before .args .roles) (c .before .before .before .before .before .before .before .before .before .args .sender) (c .before .before .before .before .before .before .before .before .before .args .receiver) (c .before .before .before .before .before .before .before .before .before .args .counts .now) (c .before .before .before .before .before .before .before .before .before .args .labels .now) (c .before .before .before .before .before .before .before .before .before .args .payloads .now)
     (c .before .before .before .before .before .wide .ensures .0) (c .before .before .before .before .before .before .before .labels-of .ensures) (c .before .before .before .before .before .before .payloads-of .ensures) (c .before .before .before .before .are-pair .ensures)
     (c .before .before .before .slot-good .ensures) (c .before .before .slot-good2 .ensures) (c .before .slot-good3 .ensures) (c .slot-good4 .ensures)

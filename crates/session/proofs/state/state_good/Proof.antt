@@ -18,7 +18,7 @@ queues-good-requires c κs = search needs
 
 -- src/state.rt:134:1
 returns : tie.Need-returns
-returns c = 
+returns c =
     rw (c .before .heads-good .ensures, c .queues-good .ensures)
     (state-read (c .before .before .before .args .tables .now) (c .before .before .before .args .roles) (c .before .before .before .args .rows) (c .before .before .before .args .heads .now) (c .before .before .before .args .counts .now) (c .before .before .before .args .labels .now) (c .before .before .before .args .payloads .now) (c .before .before .before .pre .0))
 

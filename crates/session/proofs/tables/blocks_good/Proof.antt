@@ -19,7 +19,7 @@ use Rattle.session.proofs.tables.blocks_good.Lts as lts
 use Rattle.session.proofs.tables.block_good.Reads as block-good-reads
 
 abbrev Inv-loop : tie.InvT-loop
-Inv-loop tables roles rows role₀ start₀ role start = 
+Inv-loop tables roles rows role₀ start₀ role start =
     (role ≤ roles) × (start ≡ role * rows) × (start ≤ role * 256)
     × ((k : ℕ) → k < role → every (λ i. rowGoodAt base tables roles rows (k * rows) k i) rows ≡ true)
 
@@ -36,7 +36,7 @@ block-good-requires c κs = search needs
 
 -- src/tables.rt:138:13
 returns : tie.Need-returns Inv-loop μ-loop
-returns c = 
+returns c =
     sym
     (every-fails _ _ (c .before .before .before .loop .role) (omega arith)
     (sym (block-start _ _ _ _ _ (c .before .before .before .loop .inv .1)) ∙ sym (c .before .block-good .ensures) ∙ not-true _ (c .if1 .taken)))
@@ -55,9 +55,12 @@ loop-less c = omega arith
 
 -- src/tables.rt:136:5
 loop-again : tie.Need-loop-again Inv-loop μ-loop
-loop-again c = 
-    (omega arith, omega (arith, add-mul (c .before .before .before .loop .role) 1 (c .before .before .before .before .before .args .rows)), omega arith,
-    below-more _ _ (c .before .before .before .loop .inv .3) (sym (block-start _ _ _ _ _ (c .before .before .before .loop .inv .1)) ∙ sym (c .before .block-good .ensures) ∙ not-false _ (c .if1 .left)))
+loop-again c = (
+  omega arith,
+  omega (arith, add-mul (c .before .before .before .loop .role) 1 (c .before .before .before .before .before .args .rows)),
+  omega arith,
+  below-more _ _ (c .before .before .before .loop .inv .3) (sym (block-start _ _ _ _ _ (c .before .before .before .loop .inv .1)) ∙ sym (c .before .block-good .ensures) ∙ not-false _ (c .if1 .left)),
+)
 
 -- src/tables.rt:130:1
 returns-2 : tie.Need-returns-2 Inv-loop μ-loop

@@ -39,21 +39,21 @@ has-head-requires-2 c κs = search needs
 
 -- src/tables.rt:103:1
 returns : tie.Need-returns
-returns c = 
+returns c =
     let e : c .before .before .before .before .before .args .rows ≡ suc (c .before .before .before .before .before .args .rows - 1) = omega arith in
     rw (c .before .before .row-holds .ensures, c .has-head .ensures)
     (good-loop (c .before .before .before .before .before .args .tables .now) (c .before .before .before .before .before .args .roles) (c .before .before .before .before .before .args .rows) (c .before .before .before .before .before .args .start) (c .before .before .before .before .before .args .role) (c .before .before .before .before .before .args .row) e (c .before .before .before .row-at .ensures) (c .before .match .keys1))
 
 -- src/tables.rt:103:1
 returns-2 : tie.Need-returns-2
-returns-2 c = 
+returns-2 c =
     let e : c .before .before .before .before .before .args .rows ≡ suc (c .before .before .before .before .before .args .rows - 1) = omega arith in
     rw (c .before .before .row-holds .ensures, c .has-head2 .ensures)
     (good-back (c .before .before .before .before .before .args .tables .now) (c .before .before .before .before .before .args .roles) (c .before .before .before .before .before .args .rows) (c .before .before .before .before .before .args .start) (c .before .before .before .before .before .args .role) (c .before .before .before .before .before .args .row) e (c .before .before .before .row-at .ensures) (c .before .match .keys2))
 
 -- src/tables.rt:103:1
 returns-3 : tie.Need-returns-3
-returns-3 c = 
+returns-3 c =
     let e : c .before .before .before .before .args .rows ≡ suc (c .before .before .before .before .args .rows - 1) = omega arith in
     rw (c .before .row-holds .ensures)
     (good-alone (c .before .before .before .before .args .tables .now) (c .before .before .before .before .args .roles) (c .before .before .before .before .args .rows) (c .before .before .before .before .args .start) (c .before .before .before .before .args .role) (c .before .before .before .before .args .row) e (c .before .before .row-at .ensures) (c .match .rest .0 .1) (c .match .rest .1))

@@ -20,20 +20,20 @@ returns c = sized-none _ _ (sym (c .if1 .taken) ∙ c .before .block-rows .ensur
 
 -- src/tables.rt:170:8
 blocks-good-requires : tie.Need-blocks-good-requires
-blocks-good-requires c κs = 
+blocks-good-requires c κs =
     let s = sized-some (c .before .before .before .args .tables .now) (c .before .before .before .args .roles) _ (c .before .block-rows .ensures) (c .if1 .left) in
     let b = sized-bounds (c .before .before .before .args .tables .now) (c .before .before .before .args .roles) _ s in
     (b .1, b .3)
 
 -- src/tables.rt:163:1
 returns-2 : tie.Need-returns-2
-returns-2 c = 
+returns-2 c =
     let s = sized-some (c .before .before .before .before .before .args .tables .now) (c .before .before .before .before .before .args .roles) _ (c .before .before .before .block-rows .ensures) (c .before .before .if1 .left) in
     rows-good (c .before .before .before .before .before .args .tables .now) (c .before .before .before .before .before .args .roles) _ s _ (sym (c .if2 .taken) ∙ c .before .blocks-good .ensures)
 
 -- src/tables.rt:163:1
 returns-3 : tie.Need-returns-3
-returns-3 c = 
+returns-3 c =
     let s = sized-some (c .before .before .before .before .before .args .tables .now) (c .before .before .before .before .before .args .roles) _ (c .before .before .before .block-rows .ensures) (c .before .before .if1 .left) in
     rows-good (c .before .before .before .before .before .args .tables .now) (c .before .before .before .before .before .args .roles) _ s _ (sym (c .if2 .left) ∙ c .before .blocks-good .ensures)
 

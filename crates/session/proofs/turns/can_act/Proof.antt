@@ -93,9 +93,9 @@ returns-2 c = rw (c .before .before .before .match .keys1, c .wide2 .ensures .0,
 -- src/turns.rt:70:1
 returns-3 : tie.Need-returns-3
 unfolding actsAt
-returns-3 c = 
+returns-3 c =
     let e : c .before .before .before .wide4 .result ≡ getD (c .before .before .before .before .before .before .before .before .before .before .args .labels .now) ((c .before .before .before .before .before .before .before .wide3 .result * 8 + c .before .before .before .before .before .before .before .before .before .before .args .role) * 4 + 0) 0
-      = c .before .before .before .wide4 .ensures .0 ∙ ap (λ (ls : List ℕ). getD ls 0 0) (c .before .before .before .before .labels-of .ensures) in
+    = c .before .before .before .wide4 .ensures .0 ∙ ap (λ (ls : List ℕ). getD ls 0 0) (c .before .before .before .before .labels-of .ensures) in
     let n : 0 < getD (c .before .before .before .before .before .before .before .before .before .before .args .counts .now) (c .before .before .before .before .before .before .before .wide3 .result * 8 + c .before .before .before .before .before .before .before .before .before .before .args .role) 0 = omega (arith, c .before .before .before .before .before .if1 .left) in
     let o = find (c .before .before .before .wide4 .result) (chainAt (c .before .before .before .before .before .before .before .before .before .before .args .rows) (c .before .before .before .before .before .before .before .before .before .before .args .tables .now) (c .before .before .before .before .before .before .before .before .before .before .args .start) (c .before .before .before .before .before .before .before .before .before .before .args .part .second)) in
     rw (c .before .before .before .before .before .before .before .before .match .keys2, ← (c .before .before .before .before .before .before .before .wide3 .ensures .0), lt-ltb _ _ n, ← e, found-nothing o (sym (c .before .before .find-arm .ensures) ∙ c .enum-told .given .1))
@@ -103,9 +103,9 @@ returns-3 c =
 -- src/turns.rt:70:1
 returns-4 : tie.Need-returns-4
 unfolding actsAt
-returns-4 c = 
+returns-4 c =
     let e : c .before .before .before .wide4 .result ≡ getD (c .before .before .before .before .before .before .before .before .before .before .args .labels .now) ((c .before .before .before .before .before .before .before .wide3 .result * 8 + c .before .before .before .before .before .before .before .before .before .before .args .role) * 4 + 0) 0
-      = c .before .before .before .wide4 .ensures .0 ∙ ap (λ (ls : List ℕ). getD ls 0 0) (c .before .before .before .before .labels-of .ensures) in
+    = c .before .before .before .wide4 .ensures .0 ∙ ap (λ (ls : List ℕ). getD ls 0 0) (c .before .before .before .before .labels-of .ensures) in
     let n : 0 < getD (c .before .before .before .before .before .before .before .before .before .before .args .counts .now) (c .before .before .before .before .before .before .before .wide3 .result * 8 + c .before .before .before .before .before .before .before .before .before .before .args .role) 0 = omega (arith, c .before .before .before .before .before .if1 .left) in
     let o = find (c .before .before .before .wide4 .result) (chainAt (c .before .before .before .before .before .before .before .before .before .before .args .rows) (c .before .before .before .before .before .before .before .before .before .before .args .tables .now) (c .before .before .before .before .before .before .before .before .before .before .args .start) (c .before .before .before .before .before .before .before .before .before .before .args .part .second)) in
     rw (c .before .before .before .before .before .before .before .before .match .keys2, ← (c .before .before .before .before .before .before .before .wide3 .ensures .0), lt-ltb _ _ n, ← e, found-at o _ (sym (c .before .before .find-arm .ensures) ∙ c .enum-told2 .given .1))

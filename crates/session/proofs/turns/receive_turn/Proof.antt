@@ -53,20 +53,29 @@ head-requires c κs = search needs
 -- src/turns.rt:47:1
 returns-3 : tie.Need-returns-3
 unfolding receiveTurn receiveFound
-returns-3 c = 
+returns-3 c =
     let o = find (c .before .before .before .wide2 .result) (chainAt (c .before .before .before .before .before .before .before .before .before .args .rows) (c .before .before .before .before .before .before .before .before .before .args .tables .now) (c .before .before .before .before .before .before .before .before .before .args .start) (c .before .before .before .before .before .before .before .before .before .args .part .second)) in
-    rw
-    (c .before .before .before .before .before .before .before .match .keys1, eq-eqb _ _ (sym (c .before .before .before .before .before .before .wide .ensures .0) ∙ c .before .before .before .before .before .if1 .left), ne-eqb _ _ (c .before .before .before .before .if2 .left),
-    ← (c .before .before .before .wide2 .ensures .0), found-nothing o (sym (c .before .before .find-arm .ensures) ∙ c .enum-told .given .1))
+    rw (
+      c .before .before .before .before .before .before .before .match .keys1,
+      eq-eqb _ _ (sym (c .before .before .before .before .before .before .wide .ensures .0) ∙ c .before .before .before .before .before .if1 .left),
+      ne-eqb _ _ (c .before .before .before .before .if2 .left),
+      ← (c .before .before .before .wide2 .ensures .0),
+      found-nothing o (sym (c .before .before .find-arm .ensures) ∙ c .enum-told .given .1),
+    )
 
 -- src/turns.rt:47:1
 returns-4 : tie.Need-returns-4
 unfolding receiveTurn receiveFound
-returns-4 c = 
+returns-4 c =
     let o = find (c .before .before .before .before .before .wide2 .result) (chainAt (c .before .before .before .before .before .before .before .before .before .before .before .args .rows) (c .before .before .before .before .before .before .before .before .before .before .before .args .tables .now) (c .before .before .before .before .before .before .before .before .before .before .before .args .start) (c .before .before .before .before .before .before .before .before .before .before .before .args .part .second)) in
-    rw
-    (c .before .before .before .before .before .before .before .before .before .match .keys1, eq-eqb _ _ (sym (c .before .before .before .before .before .before .before .before .wide .ensures .0) ∙ c .before .before .before .before .before .before .before .if1 .left), ne-eqb _ _ (c .before .before .before .before .before .before .if2 .left),
-    ← (c .before .before .before .before .before .wide2 .ensures .0), found-at o _ (sym (c .before .before .before .before .find-arm .ensures) ∙ c .before .before .found .given .1), c .head .ensures)
+    rw (
+      c .before .before .before .before .before .before .before .before .before .match .keys1,
+      eq-eqb _ _ (sym (c .before .before .before .before .before .before .before .before .wide .ensures .0) ∙ c .before .before .before .before .before .before .before .if1 .left),
+      ne-eqb _ _ (c .before .before .before .before .before .before .if2 .left),
+      ← (c .before .before .before .before .before .wide2 .ensures .0),
+      found-at o _ (sym (c .before .before .before .before .find-arm .ensures) ∙ c .before .before .found .given .1),
+      c .head .ensures,
+    )
 
 -- src/turns.rt:47:1
 returns-5 : tie.Need-returns-5

@@ -43,12 +43,15 @@ wide-requires-2 c κs = search needs
 -- src/turns.rt:36:25
 returns-2 : tie.Need-returns-2
 unfolding sendTurn sendFound
-returns-2 c = 
+returns-2 c =
     let o = find (c .before .before .before .before .before .before .before .before .before .before .args .label) (chainAt (c .before .before .before .before .before .before .before .before .before .before .args .rows) (c .before .before .before .before .before .before .before .before .before .before .args .tables .now) (c .before .before .before .before .before .before .before .before .before .before .args .start) (c .before .before .before .before .before .before .before .before .before .before .args .part .second)) in
-    rw
-    (c .before .before .before .before .before .before .before .before .match .keys1, eq-eqb _ _ (sym (c .before .before .before .before .before .before .before .wide .ensures .0) ∙ c .before .before .before .before .before .before .if1 .left),
-    found-at o _ (sym (c .before .before .before .before .before .find-arm .ensures) ∙ c .before .before .before .found .given .1),
-    ← (c .before .wide2 .ensures .0), le-leb _ _ (c .if2 .taken))
+    rw (
+      c .before .before .before .before .before .before .before .before .match .keys1,
+      eq-eqb _ _ (sym (c .before .before .before .before .before .before .before .wide .ensures .0) ∙ c .before .before .before .before .before .before .if1 .left),
+      found-at o _ (sym (c .before .before .before .before .before .find-arm .ensures) ∙ c .before .before .before .found .given .1),
+      ← (c .before .wide2 .ensures .0),
+      le-leb _ _ (c .if2 .taken),
+    )
 
 -- src/turns.rt:38:30
 head-requires : tie.Need-head-requires
@@ -57,21 +60,27 @@ head-requires c κs = search needs
 -- src/turns.rt:22:1
 returns-3 : tie.Need-returns-3
 unfolding sendTurn sendFound
-returns-3 c = 
+returns-3 c =
     let o = find (c .before .before .before .before .before .before .before .args .label) (chainAt (c .before .before .before .before .before .before .before .args .rows) (c .before .before .before .before .before .before .before .args .tables .now) (c .before .before .before .before .before .before .before .args .start) (c .before .before .before .before .before .before .before .args .part .second)) in
-    rw
-    (c .before .before .before .before .before .match .keys1, eq-eqb _ _ (sym (c .before .before .before .before .wide .ensures .0) ∙ c .before .before .before .if1 .left),
-    found-nothing o (sym (c .before .before .find-arm .ensures) ∙ c .enum-told .given .1))
+    rw (
+      c .before .before .before .before .before .match .keys1,
+      eq-eqb _ _ (sym (c .before .before .before .before .wide .ensures .0) ∙ c .before .before .before .if1 .left),
+      found-nothing o (sym (c .before .before .find-arm .ensures) ∙ c .enum-told .given .1),
+    )
 
 -- src/turns.rt:22:1
 returns-4 : tie.Need-returns-4
 unfolding sendTurn sendFound
-returns-4 c = 
+returns-4 c =
     let o = find (c .before .before .before .before .before .before .before .before .before .before .before .args .label) (chainAt (c .before .before .before .before .before .before .before .before .before .before .before .args .rows) (c .before .before .before .before .before .before .before .before .before .before .before .args .tables .now) (c .before .before .before .before .before .before .before .before .before .before .before .args .start) (c .before .before .before .before .before .before .before .before .before .before .before .args .part .second)) in
-    rw
-    (c .before .before .before .before .before .before .before .before .before .match .keys1, eq-eqb _ _ (sym (c .before .before .before .before .before .before .before .before .wide .ensures .0) ∙ c .before .before .before .before .before .before .before .if1 .left),
-    found-at o _ (sym (c .before .before .before .before .before .before .find-arm .ensures) ∙ c .before .before .before .before .found .given .1),
-    ← (c .before .before .wide2 .ensures .0), lt-leb _ _ (c .before .if2 .left), c .head .ensures)
+    rw (
+      c .before .before .before .before .before .before .before .before .before .match .keys1,
+      eq-eqb _ _ (sym (c .before .before .before .before .before .before .before .before .wide .ensures .0) ∙ c .before .before .before .before .before .before .before .if1 .left),
+      found-at o _ (sym (c .before .before .before .before .before .before .find-arm .ensures) ∙ c .before .before .before .before .found .given .1),
+      ← (c .before .before .wide2 .ensures .0),
+      lt-leb _ _ (c .before .if2 .left),
+      c .head .ensures,
+    )
 
 -- src/turns.rt:22:1
 returns-5 : tie.Need-returns-5

@@ -1,7 +1,7 @@
 -- The tree of a table that the check accepts has at most as many rows as the table: the rows below two links of one row are apart, since each
 -- row has one row that names it. Assumes nothing.
 use Prim.Native.Nat.{ℕ, zero, suc, _+_, _≤_, _<_}
-use mathlib.Core.Bool.{Bool, true, false, _||_, true≢false, or-true}
+use mathlib.Core.Bool.{Bool, true, false, _||_, true≢false, or-true, or-false}
 use mathlib.Core.List.{List, [], _∷_}
 use mathlib.Core.Logic.{_≢_, _⊎_, ⊎-elim}
 use mathlib.Core.Path.{_≡_, refl, sym, _∙_, ap}
@@ -43,7 +43,7 @@ one-most false = omega arith
 module _ (lim : Limits) (t : List ℕ) (roles : ℕ) (o : Obeys lim t roles) where
   below-zero : (i : ℕ) → below t i 0 ≡ eqb i 0
   unfolding below
-  below-zero i = rw (over-zero (rowsOf t) t) (mathlib.Core.Bool.or-false (eqb i 0))
+  below-zero i = rw (over-zero (rowsOf t) t) (or-false (eqb i 0))
 
   below-more : (i p : ℕ) → 0 < p → p < rowsOf t → below t i p ≡ (eqb i p || below t i (namer t p))
   unfolding below
