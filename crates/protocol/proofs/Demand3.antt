@@ -22,6 +22,7 @@ use Rattle.session.specs.Head.{head}
 use Rattle.session.specs.Tables.{rowGood}
 use Rattle.session.specs.State.{headOf}
 use Rattle.session.specs.Calls.{freshOf}
+use Rattle.protocol.specs.Engine.{ours}
 use Rattle.protocol.specs.Demand3.{Conforms, Demand3}
 use Rattle.protocol.proofs.Invariant.Covers.{Absent, a-end, a-exchange, a-flight, a-loop, a-back, AbsentArms, a-nil, a-arm, Covers, c-gone}
 use Rattle.protocol.proofs.Invariant.Holds.{h-quiet}
@@ -103,7 +104,7 @@ module _ (lim : Limits) (t : List ℕ) (roles : ℕ) (o : Opened lim t roles) (k
   unfolding freshOf
   fresh-number = rw (opened-tables lim t roles o kept)
 
-  conforms : 0 < lim .depth → Conforms lim t roles (blocks t roles)
+  conforms : 0 < lim .depth → Conforms lim (ours lim (blocks t roles) roles) t roles
   conforms deep = record {
     fresh-accepted = fresh-number;
     comes = λ cs. comes-to lim (blocks t roles) roles ground cs (freshOf lim (blocks t roles) roles .state) (treeOf t) fresh-inv;

@@ -7,3 +7,5 @@ pub mod Start
 pub mod Blocks
 pub mod Sessions
 pub mod Demand3
+pub mod Promised
+pub mod ShutOut

@@ -1,12 +1,10 @@
 -- Laws of the awaited roles and of the first heads, as the loops that find them need them. Assumes nothing.
 use Prim.Native.Nat.{ℕ, zero, suc, _+_, _*_, _-_, _<_, _≤_}
-use mathlib.Core.Bool.{Bool, true, false, cond, _&&_}
+use mathlib.Core.Bool.{Bool, true}
 use mathlib.Core.List.{List, [], _∷_, _++_, append-assoc}
 use mathlib.Core.Path.{_≡_, refl, sym, _∙_, ap}
-use lib.Dec.{ltb}
-use lib.ListN.{length, getD, set, replicate, length-append}
-use lib.Seq.{set-at, append-snoc}
-use native.Mathlib.Numerals.{add-one}
+use lib.ListN.{length, set, replicate, length-append}
+use lib.Seq.{set-at}
 use native.Mathlib.Omega.{arith}
 use borrow.Author.Tests.{lt-ltb, le-ltb}
 use Rattle.table.specs.Limits.{base}
@@ -67,7 +65,7 @@ module _ (ts : List ℕ) (roles rows r start : ℕ) (s : Session) {j : ℕ} {w :
 
 -- ---- the first heads
 
-length-first : (ts : List ℕ) (roles n : ℕ) → length (firstHeads ts roles n) ≡ n
+pub length-first : (ts : List ℕ) (roles n : ℕ) → length (firstHeads ts roles n) ≡ n
 unfolding firstHeads
 length-first ts roles zero = refl
 length-first ts roles (suc n) = simp length-append (omega (arith, length-first ts roles n))

@@ -1,22 +1,22 @@
 -- A call is its tests, and then its change of the state. What is known where no test refused it. Assumes nothing.
-use Prim.Native.Nat.{ℕ, zero, suc, pred, _+_, _*_, _-_, _<_, _≤_}
-use mathlib.Core.Bool.{Bool, true, false, cond, _&&_, _||_, not, true≢false}
-use mathlib.Core.List.{List, [], _∷_, _++_}
+use Prim.Native.Nat.{ℕ, suc, _+_, _*_, _-_, _<_, _≤_}
+use mathlib.Core.Bool.{Bool, true, false, cond, not}
+use mathlib.Core.List.{List, [], _∷_}
 use mathlib.Core.Option.{Option, none, some}
 use mathlib.Core.Path.{_≡_, refl, sym, _∙_, ap}
-use lib.Dec.{eqb, ltb, leb}
+use lib.Dec.{eqb, leb}
 use lib.ListN.{length, getD, set, take, drop}
 use lib.Seq.{sets, drop-cons}
 use native.Mathlib.Nat.{add-zero}
-use native.Mathlib.Numerals.{add-one, sub-one}
+use native.Mathlib.Numerals.{sub-one}
 use native.Mathlib.Omega.{arith}
 use borrow.Author.Tests.{eqb-true, leb-false, not-false, eqb-false}
-use Rattle.table.specs.Limits.{Limits, base}
+use Rattle.table.specs.Limits.{base}
 use Rattle.session.specs.Block.{PartRow, End, Arm, Loop, Back, Send, Receive, Other, partRow, blockRows}
-use Rattle.session.specs.Head.{find, armsOf, head}
+use Rattle.session.specs.Head.{find}
 use Rattle.session.specs.Tables.{tablesGood, rowHolds}
-use Rattle.session.specs.State.{headOf, held, labelAt, payloadAt, arePair, stateGood, moved, pushed, taken, slots, forward}
-use Rattle.session.specs.Calls.{answers, unless, standing, sendArm, sendAt, sendOf, receiveArm, receiveAt, receiveOf}
+use Rattle.session.specs.State.{headOf, held, labelAt, payloadAt, arePair, stateGood, moved, pushed, taken, forward}
+use Rattle.session.specs.Calls.{answers, unless, sendArm, sendAt, sendOf, receiveArm, receiveAt, receiveOf}
 use Rattle.session.specs.declared.Session.{Session}
 use Rattle.session.specs.declared.Answer.{Answer}
 use Rattle.session.specs.declared.turns.Turn.{Turn}
@@ -26,7 +26,7 @@ use Rattle.session.specs.mirror.State.{four}
 use Rattle.session.specs.mirror.Turns.{sendTurn, sendFound, receiveTurn, receiveFound}
 use Rattle.session.specs.mirror.Judged.{judged, sendJudged, receiveJudged}
 use Rattle.session.proofs.Mirrored.{arms-at, head-at}
-use Rattle.session.proofs.Sound.{good-sized, pair-in, Reached, row-holds, sent-found, received-found, head-stands}
+use Rattle.session.proofs.Sound.{pair-in, Reached, row-holds, sent-found, received-found, head-stands}
 use Rattle.session.proofs.Judging.{Stood, stood-bounds}
 
 -- ---- the tests, then the change

@@ -1,18 +1,17 @@
 -- Laws of rule 12: a row that is followed, and what good tables hold. Assumes nothing.
-use Prim.Native.Nat.{ℕ, zero, suc, _+_, _*_, _/_, _<_, _≤_}
+use Prim.Native.Nat.{ℕ, zero, suc, _+_, _*_, _<_, _≤_}
 use mathlib.Core.Bool.{Bool, true, false, cond, _&&_, _||_, not, and-true, true≢false}
 use mathlib.Core.List.{List}
-use mathlib.Core.Path.{_≡_, refl, sym, _∙_, ap}
+use mathlib.Core.Path.{_≡_, refl, sym, ap}
 use lib.Dec.{eqb, ltb, leb}
 use lib.ListN.{length}
-use native.Mathlib.Omega.{arith}
 use borrow.Author.Tests.{ltb-false, ltb-true, eqb-true, leb-true}
 use Rattle.words.specs.Below.{every}
 use Rattle.table.specs.Limits.{Limits, base}
 use Rattle.table.specs.Rules.{rolesBroken}
-use Rattle.session.specs.Block.{PartRow, partRowOf, blockRows, isArm, isHead}
+use Rattle.session.specs.Block.{partRowOf, blockRows, isArm, isHead}
 use Rattle.session.specs.Tables.{tablesGood, sizesGood}
-use Rattle.session.specs.mirror.Rows.{words, said, rowAt, followAt}
+use Rattle.session.specs.mirror.Rows.{words, said}
 use Rattle.session.specs.mirror.Tables.{hasHeadAt, rowHoldsAt, rowGoodAt, sizedRows, goodRows}
 use Rattle.session.specs.declared.rows.Row.{Row}
 use Rattle.session.proofs.Walk.{row-read, follow-loop, follow-back, follow-stays}

@@ -1,27 +1,24 @@
 -- The tests of a call: the ground that a call stands on, and what is known where no test refused it. Assumes nothing.
-use Prim.Native.Nat.{ℕ, zero, suc, _+_, _*_, _<_, _≤_}
-use mathlib.Core.Bool.{Bool, true, false, cond, _&&_, _||_, not, true≢false}
-use mathlib.Core.List.{List, [], _∷_}
-use mathlib.Core.Option.{Option, none, some}
+use Prim.Native.Nat.{ℕ, _+_, _*_, _<_, _≤_}
+use mathlib.Core.Bool.{Bool, true, false, cond, not}
+use mathlib.Core.List.{List}
 use mathlib.Core.Path.{_≡_, refl, sym, _∙_, ap}
-use lib.Dec.{eqb, ltb, leb}
-use lib.ListN.{length, getD}
+use lib.ListN.{getD}
 use native.Mathlib.Nat.{add-zero, mul-le-mul}
 use native.Mathlib.Omega.{arith}
-use borrow.Author.Tests.{ltb-true, leb-true, eqb-true, leb-false, not-false, eqb-false}
-use Rattle.table.specs.Limits.{Limits, base}
-use Rattle.session.specs.Block.{PartRow, End, Arm, Loop, Back, Send, Receive, Other, partRow, blockRows, isArm, isHead}
-use Rattle.session.specs.Head.{find, armsOf, head}
-use Rattle.session.specs.Tables.{tablesGood, rowHolds}
-use Rattle.session.specs.State.{headOf, held, labelAt, arePair, stateGood, nothing}
+use Rattle.table.specs.Limits.{base}
+use Rattle.session.specs.Block.{blockRows}
+use Rattle.session.specs.Head.{head}
+use Rattle.session.specs.Tables.{tablesGood}
+use Rattle.session.specs.State.{headOf, held, arePair, stateGood, nothing}
 use Rattle.session.specs.declared.Session.{Session}
 use Rattle.session.specs.declared.rows.Row.{Row}
 use Rattle.session.specs.declared.turns.Turn.{Turn}
-use Rattle.session.specs.declared.turns.Turn.the-variants.{Refused, To}
+use Rattle.session.specs.declared.turns.Turn.the-variants.{Refused}
 use Rattle.session.specs.declared.calls.Ground.{Ground}
-use Rattle.session.specs.mirror.Rows.{words, said, followAt, chainAt}
+use Rattle.session.specs.mirror.Rows.{words, said}
 use Rattle.session.specs.mirror.Tables.{goodRows}
-use Rattle.session.specs.mirror.Turns.{sendTurn, sendFound, receiveTurn, receiveFound}
+use Rattle.session.specs.mirror.Turns.{sendTurn, receiveTurn}
 use Rattle.session.specs.mirror.Judged.{groundOf, judged, sendJudged, receiveJudged}
 use lib.Count.{ones, trailingZeros}
 use Rattle.words.specs.Below.{setOf}
@@ -29,9 +26,8 @@ use Rattle.session.specs.Calls.{answers, firstHeads, freshOf}
 use Rattle.session.specs.Awaited.{isAwaited, roleSet, nobodyAwaited, awaitedOf}
 use Rattle.session.proofs.Sets.{set-count, set-least}
 use Rattle.session.proofs.Walk.{row-read}
-use Rattle.session.proofs.Mirrored.{arms-at, head-at}
-use Rattle.session.proofs.Good.{Sized, sized-bounds}
-use Rattle.session.proofs.Sound.{good-sized, pair-in, Reached, row-holds, sent-found, received-found, head-stands}
+use Rattle.session.proofs.Good.{sized-bounds}
+use Rattle.session.proofs.Sound.{good-sized}
 
 -- ---- how many rows good tables have
 

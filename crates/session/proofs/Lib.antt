@@ -9,3 +9,6 @@ pub mod Judging
 pub mod Sets
 pub mod Acting
 pub mod Calling
+pub mod Promises
+pub mod Accepted
+pub mod Kept

@@ -1,15 +1,14 @@
 -- The definitions by a block's first row and its length are those by tables, roles and role. Assumes nothing.
-use Prim.Native.Nat.{ℕ, zero, suc, _+_, _*_}
-use mathlib.Core.Bool.{Bool, true, false, cond, _&&_, _||_, not}
-use mathlib.Core.List.{List, [], _∷_}
-use mathlib.Core.Path.{_≡_, refl, sym, _∙_, ap}
+use Prim.Native.Nat.{ℕ, zero, suc, _*_}
+use mathlib.Core.List.{List, _∷_}
+use mathlib.Core.Path.{_≡_, refl, ap}
 use Rattle.words.specs.Below.{every}
 use Rattle.words.proofs.Below.{every-ext}
-use Rattle.table.specs.Limits.{Limits, base}
-use Rattle.session.specs.Block.{PartRow, End, Arm, Loop, Back, Send, Receive, Other, partRow, blockRows, isArm, isHead}
-use Rattle.session.specs.Head.{onward, follow, head, hasHead, armThen, ArmAt, chain, armsOf}
+use Rattle.table.specs.Limits.{Limits}
+use Rattle.session.specs.Block.{PartRow, End, Arm, Loop, Back, Send, Receive, Other, partRow, blockRows}
+use Rattle.session.specs.Head.{onward, follow, head, armThen, ArmAt, chain, armsOf}
 use Rattle.session.specs.Tables.{rowHolds, rowGood}
-use Rattle.session.specs.mirror.Rows.{rowAt, followAt, chainAt}
+use Rattle.session.specs.mirror.Rows.{followAt, chainAt}
 use Rattle.session.specs.mirror.Tables.{rowHoldsAt, rowGoodAt}
 
 onward-ext : (f g : ℕ → ℕ) → ((j : ℕ) → f j ≡ g j) → (i : ℕ) (row : PartRow) → onward f i row ≡ onward g i row

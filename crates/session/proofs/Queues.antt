@@ -1,15 +1,14 @@
 -- Laws of rule 13: a queue's slots, and the state by its arrays. Assumes nothing.
-use Prim.Native.Nat.{ℕ, zero, suc, _+_, _*_, _<_, _≤_}
-use mathlib.Core.Bool.{Bool, true, false, cond, _&&_, _||_, not}
-use mathlib.Core.List.{List, [], _∷_}
-use mathlib.Core.Path.{_≡_, refl, sym, _∙_, ap}
-use lib.Dec.{eqb, ltb, leb}
+use Prim.Native.Nat.{ℕ, _+_, _*_}
+use mathlib.Core.Bool.{Bool, _&&_, _||_}
+use mathlib.Core.List.{List}
+use mathlib.Core.Path.{_≡_, ap}
+use lib.Dec.{eqb, leb}
 use lib.ListN.{getD}
 use Rattle.words.specs.Below.{every}
-use Rattle.words.proofs.Below.{every-ext}
 use Rattle.table.specs.Limits.{base}
 use Rattle.session.specs.Block.{blockRows}
-use Rattle.session.specs.State.{arePair, queueGood, slotGood, stateGood}
+use Rattle.session.specs.State.{arePair, queueGood, stateGood}
 use Rattle.session.specs.mirror.State.{headGoodAt, slotHolds, four, queues, stateOf}
 
 -- what was read of the queue from p to q: how many it holds, its labels, its payloads, and what was found of each slot

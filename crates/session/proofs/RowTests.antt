@@ -1,15 +1,14 @@
 -- Laws of rule 12's tests: each asks a row's kind, which decides what the row is. Assumes nothing.
 use Prim.Native.Nat.{ℕ, zero, suc, _+_, _<_}
-use mathlib.Core.Bool.{Bool, true, false, cond, _&&_, _||_, not, and-assoc}
+use mathlib.Core.Bool.{Bool, _&&_, _||_, not, and-assoc}
 use mathlib.Core.List.{List}
 use mathlib.Core.Path.{_≡_, refl, sym, _∙_, ap}
 use lib.Dec.{eqb, ltb}
 use native.Mathlib.Omega.{arith}
 use borrow.Author.Tests.{ne-eqb}
-use Rattle.table.specs.Limits.{base}
 use Rattle.session.specs.Block.{PartRow, partRowOf, isArm, isLoop, isHead, label}
-use Rattle.session.specs.mirror.Rows.{words, said, rowAt}
-use Rattle.session.specs.mirror.Tables.{toArmAt, toOtherAt, toLoopAt, nextAt, rowHoldsAt}
+use Rattle.session.specs.mirror.Rows.{words, said}
+use Rattle.session.specs.mirror.Tables.{toArmAt, toOtherAt, toLoopAt, nextAt}
 use Rattle.session.specs.declared.rows.Row.{Row}
 use Rattle.session.proofs.Walk.{row-read}
 

@@ -4,11 +4,11 @@ use mathlib.Core.Bool.{Bool, true, false, cond}
 use mathlib.Core.Path.{_≡_, refl, sym, ap, _∙_}
 use lib.Dec.{ltb}
 use native.Mathlib.Omega.{arith}
-use native.Mathlib.Nat.{pow-suc, one-mul, zero-mul, add-zero, add-comm, mul-one, mul-comm, mul-assoc, add-mul}
+use native.Mathlib.Nat.{pow-suc, zero-mul, add-zero, add-comm, mul-one, mul-comm, mul-assoc, add-mul}
 use lib.Count.{ones, trailingZeros, ones-cat, trailing-of-zero}
 use lib.Bits.{bitOr, or-shifted-r, shifted-half, shifted-even}
 use lib.Pow.{shl-exact}
-use borrow.Author.Tests.{lt-ltb, le-ltb, ltb-true, ltb-false}
+use borrow.Author.Tests.{lt-ltb, le-ltb, ltb-true}
 use Rattle.words.specs.Below.{lowest, sum, one, howMany, setOf}
 
 up-one : (a n : ℕ) → a * 2 ^ suc n ≡ a * 2 * 2 ^ n

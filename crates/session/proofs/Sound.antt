@@ -1,24 +1,22 @@
 -- What good tables and a good state hold: rows, links, heads, queues. Assumes nothing.
-use Prim.Native.Nat.{ℕ, zero, suc, _+_, _*_, _<_, _≤_}
+use Prim.Native.Nat.{ℕ, zero, suc, _<_}
 use mathlib.Core.Bool.{Bool, true, false, cond, _&&_, _||_, not, true≢false}
-use mathlib.Core.List.{List, [], _∷_}
+use mathlib.Core.List.{List}
 use mathlib.Core.Option.{Option, none, some}
-use mathlib.Core.Path.{_≡_, refl, sym, _∙_, ap}
-use lib.Dec.{eqb, ltb, leb}
-use lib.ListN.{length, getD}
+use mathlib.Core.Path.{_≡_, refl, sym, _∙_}
+use lib.Dec.{eqb, ltb}
 use native.Mathlib.Omega.{arith}
-use borrow.Author.Tests.{ltb-true, ltb-false, leb-true, eqb-true, eqb-false, not-true, lt-ltb}
+use borrow.Author.Tests.{ltb-true, eqb-true, eqb-false, not-true, lt-ltb}
 use Rattle.words.specs.Below.{every}
 use Rattle.words.proofs.Below.{every-at}
-use Rattle.table.specs.Limits.{Limits, base}
+use Rattle.table.specs.Limits.{base}
 use Rattle.table.specs.Rules.{rolesBroken}
 use Rattle.session.specs.Block.{PartRow, End, Arm, Loop, Back, Send, Receive, Other, partRow, blockRows, isArm, isHead, isLoop, label}
-use Rattle.session.specs.Head.{onward, follow, head, hasHead, armThen, ArmAt, chain, armsOf, find}
+use Rattle.session.specs.Head.{onward, follow, head, armThen, chain, armsOf, find}
 use Rattle.session.specs.Tables.{tablesGood, sizesGood, rowHolds, rowGood, toArm, toOther, isPeer}
-use Rattle.session.specs.State.{headOf, held, arePair, headGood, queueGood, stateGood}
+use Rattle.session.specs.State.{headOf, arePair, headGood, queueGood, stateGood}
 use Rattle.session.specs.declared.Session.{Session}
-use Rattle.session.specs.mirror.Tables.{goodRows}
-use Rattle.session.proofs.Good.{both, Sized, sized-bounds}
+use Rattle.session.proofs.Good.{both, Sized}
 
 either : (a b : Bool) → (a || b) ≡ true → (a ≡ false) → b ≡ true
 either true b e f = absurd (true≢false f)

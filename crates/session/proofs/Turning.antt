@@ -1,17 +1,15 @@
 -- Laws of a call's tests past rule 14: what the lookup's answer says. Assumes nothing.
-use Prim.Native.Nat.{ℕ, zero, suc, _+_, _*_, _<_, _≤_}
-use mathlib.Core.Bool.{Bool, true, false, cond, _&&_, not}
-use mathlib.Core.List.{List, []}
+use Prim.Native.Nat.{ℕ, zero, suc}
+use mathlib.Core.Bool.{false}
+use mathlib.Core.List.{List}
 use mathlib.Core.Option.{Option, none, some}
-use mathlib.Core.Path.{_≡_, refl, sym, _∙_, ap}
-use lib.Dec.{eqb, ltb, leb}
+use mathlib.Core.Path.{_≡_, refl}
 use native.Mathlib.Omega.{arith}
-use Rattle.table.specs.Limits.{Limits, base}
-use Rattle.session.specs.Block.{PartRow, partRowOf}
+use Rattle.table.specs.Limits.{Limits}
+use Rattle.session.specs.Block.{partRowOf}
 use Rattle.session.specs.declared.Session.{Session}
-use Rattle.session.specs.declared.rows.Found.{Found}
 use Rattle.session.specs.declared.rows.Found.the-variants.{At, Nothing}
-use Rattle.session.specs.declared.turns.Turn.the-variants.{Refused, To}
+use Rattle.session.specs.declared.turns.Turn.the-variants.{Refused}
 use Rattle.session.specs.mirror.Rows.{foundOf}
 use Rattle.session.specs.mirror.Turns.{sendTurn, receiveTurn, actsAt}
 

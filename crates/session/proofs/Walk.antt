@@ -1,17 +1,14 @@
 -- Laws of the rows of a block: what a kind decides, one step towards a head, one step along a chain. Assumes nothing.
-use Prim.Native.Nat.{ℕ, zero, suc, _+_, _*_, _<_, _≤_}
-use mathlib.Core.Bool.{Bool, true, false, cond}
+use Prim.Native.Nat.{ℕ, zero, suc, _+_, _*_, _≤_}
 use mathlib.Core.List.{List, [], _∷_}
 use mathlib.Core.Path.{_≡_, refl, sym, _∙_, ap}
-use mathlib.Core.Option.{Option, none, some}
-use lib.Dec.{eqb, ltb}
+use mathlib.Core.Option.{none, some}
 use lib.ListN.{length, List·getD-eq-default}
 use native.Mathlib.Omega.{arith}
 use borrow.Author.Tests.{eq-eqb, ne-eqb}
-use Rattle.words.specs.Rows.{word}
-use Rattle.session.specs.Block.{PartRow, Arm, partRowOf}
+use Rattle.session.specs.Block.{partRowOf}
 use Rattle.session.specs.Head.{onward, armThen, find, ArmAt}
-use Rattle.session.specs.mirror.Rows.{words, said, rowAt, followAt, chainAt, foundOf}
+use Rattle.session.specs.mirror.Rows.{words, said, rowAt, followAt, chainAt}
 use Rattle.session.specs.declared.rows.Row.{Row}
 
 -- past the end of the tables every word is 0

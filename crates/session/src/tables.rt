@@ -1,6 +1,6 @@
 // Rule 12: tables that are well formed for a step.
+use crate::rows;
 use crate::rows::Row;
-use crate::rows::{self};
 use table::Table;
 ghost use mathlib.Core.Path.{_≡_};
 ghost use mathlib.Core.Bool.{Bool, true, _&&_};
@@ -108,6 +108,7 @@ fn has_head(tables: &[u16], start: usize, left: usize, row: u16) -> bool
 }
 
 // A row is well formed, and has a head if it is no Arm. Only a Loop or a Back is followed: a row of another kind is its own head.
+// So a block costs at most its Loop and Back rows times the longest run of them: a step or two for each Loop in ordinary tables.
 fn row_good(
     tables: &[u16],
     roles: usize,

@@ -1,9 +1,9 @@
 // The tests of a call past rules 12 to 14: the kind of the role's head decides. Over good tables and a good state.
 use crate::Answer;
 use crate::Session;
+use crate::rows;
 use crate::rows::Found;
 use crate::rows::Row;
-use crate::rows::{self};
 use crate::state;
 ghost use mathlib.Core.Path.{_≡_};
 ghost use Prim.Native.Nat.{ℕ, _+_, _*_, _<_};

@@ -28,7 +28,7 @@ passed : (n at : ℕ) (b : Bool) (rest : Verdict) → n ≢ 0 → cond b (says n
 passed n at true rest h e = absurd (h (ap (λ v. v .number) e))
 passed n at false rest h e = (refl, e)
 
-number-some : (k : Rule) → number k ≢ 0
+pub number-some : (k : Rule) → number k ≢ 0
 number-some kind e = omega arith
 number-some field e = omega arith
 number-some link e = omega arith

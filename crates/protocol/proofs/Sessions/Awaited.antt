@@ -19,7 +19,8 @@ use Rattle.session.specs.declared.Answer.{Answer}
 use Rattle.session.specs.declared.Session.{Session}
 use Rattle.session.specs.Tables.{rowHolds}
 use Rattle.protocol.specs.Steps.{send, receive}
-use Rattle.protocol.specs.Demand3.{Call, sends, receives, caller, answerTo, HasCall}
+use Rattle.protocol.specs.Engine.{Call, sends, receives, caller, answerTo, ours}
+use Rattle.protocol.specs.Demand3.{HasCall}
 use Rattle.protocol.proofs.Start.Encodes.{find-here}
 use Rattle.protocol.proofs.Invariant.View.{Does, does-send, does-receive, of-send, of-receive}
 use Rattle.protocol.proofs.Blocks.Views.{look, chain-arm}
@@ -96,13 +97,13 @@ module _ (lim : Limits) (ts : List ℕ) (roles : ℕ) (ground : Ground lim ts ro
   call-awaited (sends p q l v) e = sent-awaited (the-send lim ts roles ground s G inv p q l v) e
   call-awaited (receives p q) e = received-awaited (the-receive lim ts roles ground s G inv p q) e
 
-  pub has-call-awaited : (r : ℕ) → HasCall lim ts roles s r → isAwaited lim ts roles s r ≡ true
+  pub has-call-awaited : (r : ℕ) → HasCall (ours lim ts roles) s r → isAwaited lim ts roles s r ≡ true
   has-call-awaited r t = rw (t .1) at (call-awaited (t .0) (t .2))
 
   -- ---- who is awaited has a call
 
   awaited-call : (r : ℕ) → r < roles → (w : PartRow) → partRow ts roles r (headOf s r) ≡ w → canAct lim ts roles s r w ≡ true
-      → HasCall lim ts roles s r
+      → HasCall (ours lim ts roles) s r
   unfolding canAct answerTo
   awaited-call r h (End a b c) e t = absurd (true≢false (sym t))
   awaited-call r h (Arm l c n) e t = absurd (true≢false (sym t))
@@ -128,5 +129,5 @@ module _ (lim : Limits) (ts : List ℕ) (roles : ℕ) (ground : Ground lim ts ro
       (receives p r, refl, ok)
   awaited-call r h Other e t = absurd (true≢false (sym t))
 
-  pub awaited-has-call : (r : ℕ) → r < roles → isAwaited lim ts roles s r ≡ true → HasCall lim ts roles s r
+  pub awaited-has-call : (r : ℕ) → r < roles → isAwaited lim ts roles s r ≡ true → HasCall (ours lim ts roles) s r
   awaited-has-call r h t = awaited-call r h (partRow ts roles r (headOf s r)) refl t

@@ -25,7 +25,8 @@ use Rattle.session.specs.Awaited.{canAct, isAwaited, awaitedOf}
 use Rattle.session.specs.declared.Answer.{Answer}
 use Rattle.session.specs.declared.Session.{Session}
 use Rattle.protocol.specs.Steps.{Action, send, receive}
-use Rattle.protocol.specs.Demand3.{Call, sends, receives, answerTo, Allows, Finished, Follows}
+use Rattle.protocol.specs.Engine.{Call, sends, receives, answerTo, ours}
+use Rattle.protocol.specs.Demand3.{Allows, Finished, Follows}
 use Rattle.protocol.proofs.Invariant.View.{View, Does, of-send, end≢send, end≢receive}
 use Rattle.protocol.proofs.Invariant.Agree.{sender, receiver, IsSend, is-send, Config, Moves, m-send, m-receive}
 use Rattle.protocol.proofs.Invariant.Queues.{nil≢cons}
@@ -86,7 +87,7 @@ no-weight false k e = refl
 nobody : (p : ℕ → Bool) (n : ℕ) → setOf p n ≡ 0 → (k : ℕ) → k < n → p k ≡ false
 nobody p n e k h = no-weight (p k) k (sum-term (λ j. one (p j) * 2 ^ j) n k e h)
 
-empty-set : (p : ℕ → Bool) (n : ℕ) → ((k : ℕ) → k < n → p k ≡ false) → setOf p n ≡ 0
+pub empty-set : (p : ℕ → Bool) (n : ℕ) → ((k : ℕ) → k < n → p k ≡ false) → setOf p n ≡ 0
 empty-set p n f = sum-zero (λ k. one (p k) * 2 ^ k) n (λ k h. rw (f k h) (zero-mul (2 ^ k)))
 
 least : (p : ℕ → Bool) (n m r i : ℕ) → Lowest p n i → r < n → p r ≡ true → (cond (ltb i n) i m ≤ r) × (p (cond (ltb i n) i m) ≡ true)
@@ -222,14 +223,14 @@ module _ (lim : Limits) (ts : List ℕ) (roles : ℕ) (ground : Ground lim ts ro
         let two : Pair roles p q = record { sender-in = h; receiver-in = i; different = m } in
         absurd (all-done (inr (p, q, λ e. n (queue-empty p q two e))))
 
-    pub finished : Finished lim ts roles s
+    pub finished : Finished (ours lim ts roles) roles s
     finished = record {
       ended = λ r h. ended-row r h (partRow ts roles r (headOf s r)) refl (inv .kept .heads-act r h)
           (holds lim ts roles r (λ x i. ground .good r x h i) (headOf s r) (inv .kept .heads-in r h));
       empty = λ p q h i. no-message p q h i (ℕ-discrete (held lim s p q) 0) (ℕ-discrete p q);
     }
 
-  finished-none : Finished lim ts roles s → (r : ℕ) → r < roles → isAwaited lim ts roles s r ≡ false
+  finished-none : Finished (ours lim ts roles) roles s → (r : ℕ) → r < roles → isAwaited lim ts roles s r ≡ false
   unfolding canAct
   finished-none f r h = rw (f .ended r h, canAct)
 
@@ -237,7 +238,7 @@ module _ (lim : Limits) (ts : List ℕ) (roles : ℕ) (ground : Ground lim ts ro
   unfolding awaitedOf
   set-is = rw (ground .tables, state-good lim ts roles s (inv .kept))
 
-  pub followed : Follows lim ts roles s G
+  pub followed : Follows lim (ours lim ts roles) roles s G
   unfolding awaitedOf answerTo
   followed = record {
     send-exactly = λ p q l v. (

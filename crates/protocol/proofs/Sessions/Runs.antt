@@ -17,7 +17,8 @@ use Rattle.session.specs.Calls.{sendOf, receiveOf}
 use Rattle.session.specs.declared.Answer.{Answer}
 use Rattle.session.specs.declared.Session.{Session}
 use Rattle.protocol.specs.Steps.{send, receive, Step}
-use Rattle.protocol.specs.Demand3.{Call, sends, receives, answerTo, after, stepOf, ComesTo, no-call, accepted-call, refused-call}
+use Rattle.protocol.specs.Engine.{Call, sends, receives, answerTo, reply, ours}
+use Rattle.protocol.specs.Demand3.{after, stepOf, ComesTo, no-call, accepted-call, refused-call}
 use Rattle.protocol.proofs.Determined.{determined}
 use Rattle.protocol.proofs.Invariant.View.{v-send, v-receive, Does, of-send, of-receive}
 use Rattle.protocol.proofs.Invariant.Agree.{m-send, m-receive, Agree, agree-same}
@@ -110,7 +111,7 @@ module _ (lim : Limits) (ts : List ℕ) (roles : ℕ) (ground : Ground lim ts ro
 
   pub data Outcome (c : Call) : Answer → Type 0 where
     refused : {a : Answer} → a .number ≢ ACCEPTED → a .state ≡ s → Outcome c a
-    accepted : {a : Answer} (G′ : Global ℕ) → a .number ≡ ACCEPTED → Step (stepOf c a) G G′ → Inv lim ts roles (a .state) G′ → Outcome c a
+    accepted : {a : Answer} (G′ : Global ℕ) → a .number ≡ ACCEPTED → Step (stepOf c (reply a)) G G′ → Inv lim ts roles (a .state) G′ → Outcome c a
 
   send-outcome : (p q l v : ℕ) {a : Answer} → SendCase lim ts roles s p q l v a → Outcome (sends p q l v) a
   send-outcome p q l v (send-refused n cannot) = refused (plain n .not-accepted) refl
@@ -154,19 +155,19 @@ module _ (lim : Limits) (ts : List ℕ) (roles : ℕ) (ground : Ground lim ts ro
 
 module _ (lim : Limits) (ts : List ℕ) (roles : ℕ) (ground : Ground lim ts roles) where
   -- every list of calls brings the protocol somewhere
-  pub comes-to : (cs : List Call) (s : Session) (G : Global ℕ) → Inv lim ts roles s G → (H : Global ℕ) × ComesTo lim ts roles s G cs H
+  pub comes-to : (cs : List Call) (s : Session) (G : Global ℕ) → Inv lim ts roles s G → (H : Global ℕ) × ComesTo (ours lim ts roles) s G cs H
   comes-to [] s G inv = (G, no-call)
   comes-to (c ∷ cs) s G inv = go (outcome lim ts roles ground s G inv c) (λ G′ i. comes-to cs (answerTo lim ts roles c s .state) G′ i)
     where
       go : Outcome lim ts roles ground s G inv c (answerTo lim ts roles c s)
           → ((G′ : Global ℕ) → Inv lim ts roles (answerTo lim ts roles c s .state) G′
-          → (H : Global ℕ) × ComesTo lim ts roles (answerTo lim ts roles c s .state) G′ cs H)
-          → (H : Global ℕ) × ComesTo lim ts roles s G (c ∷ cs) H
+          → (H : Global ℕ) × ComesTo (ours lim ts roles) (answerTo lim ts roles c s .state) G′ cs H)
+          → (H : Global ℕ) × ComesTo (ours lim ts roles) s G (c ∷ cs) H
       go (refused n e) rest = let (H, t) = rest G (rw e inv) in (H, refused-call {H = H} n t)
       go (accepted G′ n step i) rest = let (H, t) = rest G′ i in (H, accepted-call {H = H} n step t)
 
   -- and to one tree only
-  pub comes-once : {cs : List Call} {s : Session} {G H K : Global ℕ} → ComesTo lim ts roles s G cs H → ComesTo lim ts roles s G cs K → H ≡ K
+  pub comes-once : {cs : List Call} {s : Session} {G H K : Global ℕ} → ComesTo (ours lim ts roles) s G cs H → ComesTo (ours lim ts roles) s G cs K → H ≡ K
   comes-once no-call no-call = refl
   comes-once (accepted-call n step t) (accepted-call m step′ u) = comes-once t (rw (determined step′ step) at u)
   comes-once (accepted-call n step t) (refused-call m u) = absurd (m n)
@@ -174,8 +175,8 @@ module _ (lim : Limits) (ts : List ℕ) (roles : ℕ) (ground : Ground lim ts ro
   comes-once (refused-call n t) (refused-call m u) = comes-once t u
 
   -- with which the session then agrees
-  pub agrees-after : {cs : List Call} {s : Session} {G H : Global ℕ} → ComesTo lim ts roles s G cs H → Inv lim ts roles s G
-      → Inv lim ts roles (after lim ts roles cs s) H
+  pub agrees-after : {cs : List Call} {s : Session} {G H : Global ℕ} → ComesTo (ours lim ts roles) s G cs H → Inv lim ts roles s G
+      → Inv lim ts roles (after (ours lim ts roles) cs s) H
   unfolding after
   agrees-after no-call inv = inv
   agrees-after {s = s} {G = G} (accepted-call {G′ = G′} {c = c} n step t) inv = agrees-after t (go (outcome lim ts roles ground s G inv c))

@@ -1,11 +1,11 @@
 -- All the tests of a call, before the state is changed. Assumes nothing.
-use Prim.Native.Nat.{ℕ, _+_, _*_}
-use mathlib.Core.Bool.{Bool, cond, not}
+use Prim.Native.Nat.{ℕ, _*_}
+use mathlib.Core.Bool.{cond, not}
 use mathlib.Core.List.{List}
 use Rattle.table.specs.Limits.{Limits}
 use Rattle.table.specs.Numbers.{ACCEPTED}
 use Rattle.session.specs.Numbers.{TABLES, STATE, PARTY}
-use Rattle.session.specs.Block.{PartRow, partRow, blockRows}
+use Rattle.session.specs.Block.{partRow, blockRows}
 use Rattle.session.specs.Tables.{tablesGood}
 use Rattle.session.specs.State.{headOf, held, labelAt, arePair, stateGood}
 use Rattle.session.specs.declared.Session.{Session}

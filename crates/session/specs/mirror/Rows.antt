@@ -1,7 +1,6 @@
 -- What the functions that follow a block's rows answer, by the block's first row and its length. Assumes nothing.
 use Prim.Native.Nat.{ℕ, zero, suc, _+_}
-use mathlib.Core.Bool.{Bool, true, false}
-use mathlib.Core.List.{List, [], _∷_}
+use mathlib.Core.List.{List, []}
 use mathlib.Core.Option.{Option, none, some}
 use Rattle.words.specs.Rows.{word}
 use Rattle.session.specs.Block.{PartRow, partRowOf}

@@ -1,9 +1,8 @@
 -- Rule 12 by a block's first row and its length. Assumes nothing.
-use Prim.Native.Nat.{ℕ, _+_, _*_}
-use mathlib.Core.Bool.{Bool, true, false, cond, _&&_, _||_, not}
+use Prim.Native.Nat.{ℕ}
+use mathlib.Core.Bool.{Bool, false, cond, _&&_, _||_, not}
 use mathlib.Core.List.{List}
 use lib.Dec.{ltb, eqb}
-use Rattle.words.specs.Below.{every}
 use Rattle.table.specs.Limits.{Limits}
 use Rattle.table.specs.Rules.{rolesBroken}
 use Rattle.session.specs.Block.{PartRow, End, Arm, Loop, Back, Send, Receive, Other, blockRows, isArm, isLoop, isHead, label}

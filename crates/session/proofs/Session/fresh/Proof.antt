@@ -1,30 +1,22 @@
 -- `Session::fresh` meets its promise. Assumes nothing.
-use mathlib.Core.Path.{_≡_, sym, _∙_}
+use mathlib.Core.Path.{sym, _∙_}
 use native.Mathlib.Omega.{arith}
 use Rattle.session.proofs.Judging.{bad-tables, good-tables, fresh-refused, fresh-accepted}
 use borrow.Author.Needs.{needs}
 use Rattle.session.proofs.Session.fresh.Statement.{statement}
 use Rattle.session.proofs.Session.fresh.Tie as tie
-use Rattle.session.proofs.Session.fresh.Reads as reads
-use Rattle.session.proofs.Session.fresh.Lts as lts
-use Rattle.session.proofs.calls.first_heads.Reads as first-heads-reads
-use Rattle.session.proofs.tables.rows_of.Reads as rows-of-reads
 
--- src/lib.rt:39:13
 rows-of-requires : tie.Need-rows-of-requires
 rows-of-requires c κs = search needs
 
--- src/lib.rt:42:13
 returns : tie.Need-returns
 returns c = fresh-refused (c .before .before .before .args .tables .now) (c .before .before .before .args .roles) (bad-tables _ _ (sym (c .if1 .taken) ∙ c .before .rows-of .ensures))
 
--- src/lib.rt:44:13
 first-heads-requires : tie.Need-first-heads-requires
 first-heads-requires c κs =
     let g = good-tables (c .before .before .before .args .tables .now) (c .before .before .before .args .roles) _ (c .before .rows-of .ensures) (c .if1 .left) in
     (g .1, omega (arith, g .2))
 
--- src/lib.rt:36:5
 returns-2 : tie.Need-returns-2
 returns-2 c =
     let g = good-tables (c .before .before .before .before .args .tables .now) (c .before .before .before .before .args .roles) _ (c .before .before .rows-of .ensures) (c .before .if1 .left) in

@@ -1,6 +1,5 @@
 -- `calls::awaited_set` meets its contract. The loop's invariant: the set holds the awaited roles below this one. Assumes nothing.
-use Prim.Native.Nat.{ℕ, _-_, _<_, _≤_, _*_, _^_, _%_}
-use mathlib.Core.Bool.{Bool}
+use Prim.Native.Nat.{ℕ, _-_, _≤_, _*_, _^_, _%_}
 use mathlib.Core.Logic.{⊎-elim}
 use mathlib.Core.Path.{_≡_, refl, sym, _∙_, ap}
 use lib.Bits.{bitOr}
@@ -18,11 +17,6 @@ use Rattle.session.proofs.Good.{sized-bounds}
 use Rattle.session.proofs.Acting.{acts-read, low-peer}
 use Rattle.session.proofs.calls.awaited_set.Statement.{statement}
 use Rattle.session.proofs.calls.awaited_set.Tie as tie
-use Rattle.session.proofs.calls.awaited_set.Reads as reads
-use Rattle.session.proofs.calls.awaited_set.Lts as lts
-use Rattle.session.proofs.rows.row_at.Reads as row-at-reads
-use Rattle.session.proofs.turns.can_act.Reads as can-act-reads
-use Rattle.words.proofs.wide.Reads as wide-reads
 
 abbrev Inv-loop : tie.InvT-loop
 Inv-loop tables roles rows heads counts labels payloads set₀ role₀ start₀ set role start =
@@ -32,57 +26,45 @@ Inv-loop tables roles rows heads counts labels payloads set₀ role₀ start₀ 
 abbrev μ-loop : tie.MeasureT-loop
 μ-loop tables roles rows heads counts labels payloads set₀ role₀ start₀ set role start = roles - role
 
--- src/calls.rt:85:5
 loop-holds : tie.Need-loop-holds Inv-loop μ-loop
 unfolding sum
 loop-holds c =
     let b = sized-bounds (c .before .args .tables .now) (c .before .args .roles) _ (good-sized (c .before .args .tables .now) (c .before .args .roles) (c .before .pre .1)) in
     (omega arith, omega (arith, zero-mul (c .before .args .rows)), omega arith, b .1, omega (arith, b .3, c .before .pre .0), refl)
 
--- src/calls.rt:86:60
 mul-wide : tie.Need-mul-wide Inv-loop μ-loop
 mul-wide c = omega arith
 
--- src/calls.rt:86:60
 element-copy-out-wide : tie.Need-element-copy-out-wide Inv-loop μ-loop
 element-copy-out-wide c = omega arith
 
--- src/calls.rt:86:48
 wide-requires : tie.Need-wide-requires Inv-loop μ-loop
 wide-requires c κs = search needs
 
--- src/calls.rt:86:13
 row-at-requires : tie.Need-row-at-requires Inv-loop μ-loop
 row-at-requires c κs = search needs
 
--- src/calls.rt:87:12
 can-act-requires : tie.Need-can-act-requires Inv-loop μ-loop
 can-act-requires c κs =
     low-peer (c .before .before .before .before .before .before .args .tables .now) (c .before .before .before .before .before .before .args .roles) (c .before .before .before .before .before .before .args .rows) (c .before .before .before .before .loop .role) (c .before .before .before .before .loop .start)
     (stateOf (c .before .before .before .before .before .before .args .heads .now) (c .before .before .before .before .before .before .args .counts .now) (c .before .before .before .before .before .before .args .labels .now) (c .before .before .before .before .before .before .args .payloads .now))
     (c .before .before .before .before .before .before .pre .0) (c .before .before .before .before .loop .inv .1) (c .before .wide .ensures .0) (c .row-at .ensures) (c .before .before .before .before .before .before .pre .1) (c .before .before .before .before .before .before .pre .2) (c .before .before .before .loop-test .taken)
 
--- src/calls.rt:88:33
 cast-set : tie.Need-cast-set Inv-loop μ-loop
 cast-set c = search needs
 
--- src/calls.rt:88:26
 shl-set : tie.Need-shl-set Inv-loop μ-loop
 shl-set c = search needs
 
--- src/calls.rt:90:9
 add-start : tie.Need-add-start Inv-loop μ-loop
 add-start c = omega arith
 
--- src/calls.rt:91:9
 add-role : tie.Need-add-role Inv-loop μ-loop
 add-role c = omega arith
 
--- src/calls.rt:85:5
 loop-less : tie.Need-loop-less Inv-loop μ-loop
 loop-less c = omega arith
 
--- src/calls.rt:85:5
 loop-again : tie.Need-loop-again Inv-loop μ-loop
 loop-again c =
     let s = stateOf (c .before .before .before .before .before .before .before .before .args .heads .now) (c .before .before .before .before .before .before .before .before .args .counts .now) (c .before .before .before .before .before .before .before .before .args .labels .now) (c .before .before .before .before .before .before .before .before .args .payloads .now) in
@@ -102,7 +84,6 @@ loop-again c =
           (c .if1 .came)),
     )
 
--- src/calls.rt:78:1
 returns : tie.Need-returns Inv-loop μ-loop
 returns c =
     let s = stateOf (c .before .before .before .args .heads .now) (c .before .before .before .args .counts .now) (c .before .before .before .args .labels .now) (c .before .before .before .args .payloads .now) in

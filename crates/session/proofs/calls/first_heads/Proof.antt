@@ -1,9 +1,9 @@
 -- `calls::first_heads` meets its contract. The loop's invariant: the roles below this one have their heads, the others 0. Assumes nothing.
-use Prim.Native.Nat.{ℕ, _-_, _<_, _≤_, _*_, suc}
-use mathlib.Core.List.{List, _++_, append-nil}
+use Prim.Native.Nat.{_-_, _≤_, _*_, suc}
+use mathlib.Core.List.{_++_, append-nil}
 use mathlib.Core.Logic.{⊎-elim}
-use mathlib.Core.Path.{_≡_, refl, sym, _∙_, ap}
-use lib.ListN.{replicate, length}
+use mathlib.Core.Path.{_≡_, refl, _∙_}
+use lib.ListN.{replicate}
 use borrow.Author.Needs.{needs}
 use native.Mathlib.Nat.{add-mul, zero-mul}
 use native.Mathlib.Numerals.{add-one}
@@ -12,9 +12,6 @@ use Rattle.session.specs.Calls.{firstHeads}
 use Rattle.session.proofs.Acting.{one-head, no-head}
 use Rattle.session.proofs.calls.first_heads.Statement.{statement}
 use Rattle.session.proofs.calls.first_heads.Tie as tie
-use Rattle.session.proofs.calls.first_heads.Reads as reads
-use Rattle.session.proofs.calls.first_heads.Lts as lts
-use Rattle.session.proofs.rows.head.Reads as head-reads
 
 abbrev Inv-loop : tie.InvT-loop
 Inv-loop tables roles rows heads₀ role₀ start₀ heads role start =
@@ -23,36 +20,28 @@ Inv-loop tables roles rows heads₀ role₀ start₀ heads role start =
 abbrev μ-loop : tie.MeasureT-loop
 μ-loop tables roles rows heads₀ role₀ start₀ heads role start = 8 - role
 
--- src/calls.rt:104:5
 loop-holds : tie.Need-loop-holds Inv-loop μ-loop
 unfolding firstHeads
 loop-holds c = (omega arith, omega (arith, zero-mul (c .before .args .rows)), omega arith, refl)
 
--- src/calls.rt:106:27
 head-requires : tie.Need-head-requires Inv-loop μ-loop
 head-requires c κs = search needs
 
--- src/calls.rt:106:13
 mul-heads : tie.Need-mul-heads Inv-loop μ-loop
 mul-heads c = omega arith
 
--- src/calls.rt:106:13
 array-write-heads : tie.Need-array-write-heads Inv-loop μ-loop
 array-write-heads c = search needs
 
--- src/calls.rt:108:9
 add-start : tie.Need-add-start Inv-loop μ-loop
 add-start c = omega arith
 
--- src/calls.rt:109:9
 add-role : tie.Need-add-role Inv-loop μ-loop
 add-role c = omega arith
 
--- src/calls.rt:104:5
 loop-less : tie.Need-loop-less Inv-loop μ-loop
 loop-less c = omega arith
 
--- src/calls.rt:104:5
 loop-again : tie.Need-loop-again Inv-loop μ-loop
 loop-again c =
     let left : 8 - c .before .before .loop .role ≡ suc (8 - suc (c .before .before .loop .role)) = omega arith in (
@@ -66,7 +55,6 @@ loop-again c =
           (c .if1 .came)),
     )
 
--- src/calls.rt:97:1
 returns : tie.Need-returns Inv-loop μ-loop
 returns c =
     let e : c .before .loop .role ≡ 8 = omega arith in

@@ -1,5 +1,5 @@
 -- `calls::judge_receive` meets its contract. Assumes nothing.
-use mathlib.Core.Path.{_≡_, sym, _∙_}
+use mathlib.Core.Path.{sym, _∙_}
 use native.Mathlib.Omega.{arith}
 use borrow.Author.Tests.{not-true, not-false}
 use Rattle.session.specs.mirror.State.{stateOf}
@@ -9,35 +9,23 @@ use Rattle.session.proofs.Judging.{ground-refuses, ground-stands, stood
 use borrow.Author.Needs.{needs}
 use Rattle.session.proofs.calls.judge_receive.Statement.{statement}
 use Rattle.session.proofs.calls.judge_receive.Tie as tie
-use Rattle.session.proofs.calls.judge_receive.Reads as reads
-use Rattle.session.proofs.calls.judge_receive.Lts as lts
-use Rattle.session.proofs.calls.standing.Reads as standing-reads
-use Rattle.session.proofs.rows.row_at.Reads as row-at-reads
-use Rattle.session.proofs.state.are_pair.Reads as are-pair-reads
-use Rattle.session.proofs.turns.receive_turn.Reads as receive-turn-reads
-use Rattle.words.proofs.wide.Reads as wide-reads
 
--- src/calls.rt:63:9
 standing-requires : tie.Need-standing-requires
 standing-requires c κs = search needs
 
--- src/calls.rt:65:9
 returns : tie.Need-returns
 unfolding receiveJudged
 returns c = ground-refuses (c .before .before .before .before .args .tables .now) (c .before .before .before .before .args .roles) (stateOf (c .before .before .before .before .args .heads .now) (c .before .before .before .before .args .counts .now) (c .before .before .before .before .args .labels .now) (c .before .before .before .before .args .payloads .now)) (c .before .before .standing .ensures) (c .before .before .before .before .args .sender) (c .before .before .before .before .args .receiver) _ (c .if1 .taken)
 
--- src/calls.rt:67:9
 are-pair-requires : tie.Need-are-pair-requires
 are-pair-requires c κs = search needs
 
--- src/calls.rt:68:9
 returns-2 : tie.Need-returns-2
 unfolding receiveJudged
 returns-2 c =
     let st = ground-stands (c .before .before .before .before .before .before .args .tables .now) (c .before .before .before .before .before .before .args .roles) (stateOf (c .before .before .before .before .before .before .args .heads .now) (c .before .before .before .before .before .before .args .counts .now) (c .before .before .before .before .before .before .args .labels .now) (c .before .before .before .before .before .before .args .payloads .now)) (c .before .before .before .before .standing .ensures) (c .before .before .if1 .left) in
     not-pair (c .before .before .before .before .before .before .args .tables .now) (c .before .before .before .before .before .before .args .roles) _ (stateOf (c .before .before .before .before .before .before .args .heads .now) (c .before .before .before .before .before .before .args .counts .now) (c .before .before .before .before .before .before .args .labels .now) (c .before .before .before .before .before .before .args .payloads .now)) st (c .before .before .before .before .before .before .args .sender) (c .before .before .before .before .before .before .args .receiver) _ (sym (c .before .are-pair .ensures) ∙ not-true (c .before .are-pair .result) (c .if2 .taken))
 
--- src/calls.rt:70:17
 mul-start : tie.Need-mul-start
 mul-start c =
     let st = ground-stands (c .before .before .before .before .before .before .before .args .tables .now) (c .before .before .before .before .before .before .before .args .roles) (stateOf (c .before .before .before .before .before .before .before .args .heads .now) (c .before .before .before .before .before .before .before .args .counts .now) (c .before .before .before .before .before .before .before .args .labels .now) (c .before .before .before .before .before .before .before .args .payloads .now)) (c .before .before .before .before .before .standing .ensures) (c .before .before .before .if1 .left) in
@@ -46,7 +34,6 @@ mul-start c =
     let i = pair-in (c .before .before .before .before .before .before .before .args .roles) (c .before .before .before .before .before .before .before .args .sender) (c .before .before .before .before .before .before .before .args .receiver) two in
     omega (arith, stood-start (c .before .before .before .before .before .before .before .args .tables .now) (c .before .before .before .before .before .before .before .args .roles) _ (stateOf (c .before .before .before .before .before .before .before .args .heads .now) (c .before .before .before .before .before .before .before .args .counts .now) (c .before .before .before .before .before .before .before .args .labels .now) (c .before .before .before .before .before .before .before .args .payloads .now)) st _ (i .1))
 
--- src/calls.rt:71:56
 mul-wide : tie.Need-mul-wide
 mul-wide c =
     let st = ground-stands (c .before .before .before .before .before .before .before .args .tables .now) (c .before .before .before .before .before .before .before .args .roles) (stateOf (c .before .before .before .before .before .before .before .args .heads .now) (c .before .before .before .before .before .before .before .args .counts .now) (c .before .before .before .before .before .before .before .args .labels .now) (c .before .before .before .before .before .before .before .args .payloads .now)) (c .before .before .before .before .before .standing .ensures) (c .before .before .before .if1 .left) in
@@ -55,7 +42,6 @@ mul-wide c =
     let i = pair-in (c .before .before .before .before .before .before .before .args .roles) (c .before .before .before .before .before .before .before .args .sender) (c .before .before .before .before .before .before .before .args .receiver) two in
     omega (arith, b .1, i .1)
 
--- src/calls.rt:71:56
 element-copy-out-wide : tie.Need-element-copy-out-wide
 element-copy-out-wide c =
     let st = ground-stands (c .before .before .before .before .before .before .before .args .tables .now) (c .before .before .before .before .before .before .before .args .roles) (stateOf (c .before .before .before .before .before .before .before .args .heads .now) (c .before .before .before .before .before .before .before .args .counts .now) (c .before .before .before .before .before .before .before .args .labels .now) (c .before .before .before .before .before .before .before .args .payloads .now)) (c .before .before .before .before .before .standing .ensures) (c .before .before .before .if1 .left) in
@@ -64,15 +50,12 @@ element-copy-out-wide c =
     let i = pair-in (c .before .before .before .before .before .before .before .args .roles) (c .before .before .before .before .before .before .before .args .sender) (c .before .before .before .before .before .before .before .args .receiver) two in
     omega (arith, b .1, i .1)
 
--- src/calls.rt:71:44
 wide-requires : tie.Need-wide-requires
 wide-requires c κs = search needs
 
--- src/calls.rt:71:9
 row-at-requires : tie.Need-row-at-requires
 row-at-requires c κs = search needs
 
--- src/calls.rt:72:16
 mul-pair : tie.Need-mul-pair
 mul-pair c =
     let st = ground-stands (c .before .before .before .before .before .before .before .before .before .before .args .tables .now) (c .before .before .before .before .before .before .before .before .before .before .args .roles) (stateOf (c .before .before .before .before .before .before .before .before .before .before .args .heads .now) (c .before .before .before .before .before .before .before .before .before .before .args .counts .now) (c .before .before .before .before .before .before .before .before .before .before .args .labels .now) (c .before .before .before .before .before .before .before .before .before .before .args .payloads .now)) (c .before .before .before .before .before .before .before .before .standing .ensures) (c .before .before .before .before .before .before .if1 .left) in
@@ -81,7 +64,6 @@ mul-pair c =
     let i = pair-in (c .before .before .before .before .before .before .before .before .before .before .args .roles) (c .before .before .before .before .before .before .before .before .before .before .args .sender) (c .before .before .before .before .before .before .before .before .before .before .args .receiver) two in
     omega (arith, b .1, i .0, i .1)
 
--- src/calls.rt:72:16
 add-pair : tie.Need-add-pair
 add-pair c =
     let st = ground-stands (c .before .before .before .before .before .before .before .before .before .before .args .tables .now) (c .before .before .before .before .before .before .before .before .before .before .args .roles) (stateOf (c .before .before .before .before .before .before .before .before .before .before .args .heads .now) (c .before .before .before .before .before .before .before .before .before .before .args .counts .now) (c .before .before .before .before .before .before .before .before .before .before .args .labels .now) (c .before .before .before .before .before .before .before .before .before .before .args .payloads .now)) (c .before .before .before .before .before .before .before .before .standing .ensures) (c .before .before .before .before .before .before .if1 .left) in
@@ -90,7 +72,6 @@ add-pair c =
     let i = pair-in (c .before .before .before .before .before .before .before .before .before .before .args .roles) (c .before .before .before .before .before .before .before .before .before .before .args .sender) (c .before .before .before .before .before .before .before .before .before .before .args .receiver) two in
     omega (arith, b .1, i .0, i .1)
 
--- src/calls.rt:73:24
 mul-label : tie.Need-mul-label
 mul-label c =
     let st = ground-stands (c .before .before .before .before .before .before .before .before .before .before .args .tables .now) (c .before .before .before .before .before .before .before .before .before .before .args .roles) (stateOf (c .before .before .before .before .before .before .before .before .before .before .args .heads .now) (c .before .before .before .before .before .before .before .before .before .before .args .counts .now) (c .before .before .before .before .before .before .before .before .before .before .args .labels .now) (c .before .before .before .before .before .before .before .before .before .before .args .payloads .now)) (c .before .before .before .before .before .before .before .before .standing .ensures) (c .before .before .before .before .before .before .if1 .left) in
@@ -99,7 +80,6 @@ mul-label c =
     let i = pair-in (c .before .before .before .before .before .before .before .before .before .before .args .roles) (c .before .before .before .before .before .before .before .before .before .before .args .sender) (c .before .before .before .before .before .before .before .before .before .before .args .receiver) two in
     omega (arith, b .1, i .0, i .1)
 
--- src/calls.rt:73:17
 element-copy-out-label : tie.Need-element-copy-out-label
 element-copy-out-label c =
     let st = ground-stands (c .before .before .before .before .before .before .before .before .before .before .args .tables .now) (c .before .before .before .before .before .before .before .before .before .before .args .roles) (stateOf (c .before .before .before .before .before .before .before .before .before .before .args .heads .now) (c .before .before .before .before .before .before .before .before .before .before .args .counts .now) (c .before .before .before .before .before .before .before .before .before .before .args .labels .now) (c .before .before .before .before .before .before .before .before .before .before .args .payloads .now)) (c .before .before .before .before .before .before .before .before .standing .ensures) (c .before .before .before .before .before .before .if1 .left) in
@@ -108,7 +88,6 @@ element-copy-out-label c =
     let i = pair-in (c .before .before .before .before .before .before .before .before .before .before .args .roles) (c .before .before .before .before .before .before .before .before .before .before .args .sender) (c .before .before .before .before .before .before .before .before .before .before .args .receiver) two in
     omega (arith, b .1, i .0, i .1)
 
--- src/calls.rt:74:67
 element-copy-out-receive-turn : tie.Need-element-copy-out-receive-turn
 element-copy-out-receive-turn c =
     let st = ground-stands (c .before .before .before .before .before .before .before .before .before .before .before .args .tables .now) (c .before .before .before .before .before .before .before .before .before .before .before .args .roles) (stateOf (c .before .before .before .before .before .before .before .before .before .before .before .args .heads .now) (c .before .before .before .before .before .before .before .before .before .before .before .args .counts .now) (c .before .before .before .before .before .before .before .before .before .before .before .args .labels .now) (c .before .before .before .before .before .before .before .before .before .before .before .args .payloads .now)) (c .before .before .before .before .before .before .before .before .before .standing .ensures) (c .before .before .before .before .before .before .before .if1 .left) in
@@ -117,11 +96,9 @@ element-copy-out-receive-turn c =
     let i = pair-in (c .before .before .before .before .before .before .before .before .before .before .before .args .roles) (c .before .before .before .before .before .before .before .before .before .before .before .args .sender) (c .before .before .before .before .before .before .before .before .before .before .before .args .receiver) two in
     omega (arith, b .1, i .0, i .1)
 
--- src/calls.rt:74:5
 receive-turn-requires : tie.Need-receive-turn-requires
 receive-turn-requires c κs = search needs
 
--- src/calls.rt:60:1
 returns-3 : tie.Need-returns-3
 returns-3 c =
     let st = ground-stands (c .before .before .before .before .before .before .before .before .before .before .before .before .before .args .tables .now) (c .before .before .before .before .before .before .before .before .before .before .before .before .before .args .roles) (stateOf (c .before .before .before .before .before .before .before .before .before .before .before .before .before .args .heads .now) (c .before .before .before .before .before .before .before .before .before .before .before .before .before .args .counts .now) (c .before .before .before .before .before .before .before .before .before .before .before .before .before .args .labels .now) (c .before .before .before .before .before .before .before .before .before .before .before .before .before .args .payloads .now)) (c .before .before .before .before .before .before .before .before .before .before .before .standing .ensures) (c .before .before .before .before .before .before .before .before .before .if1 .left) in

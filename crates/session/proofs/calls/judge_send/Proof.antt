@@ -1,5 +1,5 @@
 -- `calls::judge_send` meets its contract. Assumes nothing.
-use mathlib.Core.Path.{_≡_, sym, _∙_}
+use mathlib.Core.Path.{sym, _∙_}
 use native.Mathlib.Omega.{arith}
 use borrow.Author.Tests.{not-true, not-false}
 use Rattle.session.specs.mirror.State.{stateOf}
@@ -9,35 +9,23 @@ use Rattle.session.proofs.Judging.{ground-refuses, ground-stands, stood
 use borrow.Author.Needs.{needs}
 use Rattle.session.proofs.calls.judge_send.Statement.{statement}
 use Rattle.session.proofs.calls.judge_send.Tie as tie
-use Rattle.session.proofs.calls.judge_send.Reads as reads
-use Rattle.session.proofs.calls.judge_send.Lts as lts
-use Rattle.session.proofs.calls.standing.Reads as standing-reads
-use Rattle.session.proofs.rows.row_at.Reads as row-at-reads
-use Rattle.session.proofs.state.are_pair.Reads as are-pair-reads
-use Rattle.session.proofs.turns.send_turn.Reads as send-turn-reads
-use Rattle.words.proofs.wide.Reads as wide-reads
 
--- src/calls.rt:46:9
 standing-requires : tie.Need-standing-requires
 standing-requires c κs = search needs
 
--- src/calls.rt:48:9
 returns : tie.Need-returns
 unfolding sendJudged
 returns c = ground-refuses (c .before .before .before .before .args .tables .now) (c .before .before .before .before .args .roles) (stateOf (c .before .before .before .before .args .heads .now) (c .before .before .before .before .args .counts .now) (c .before .before .before .before .args .labels .now) (c .before .before .before .before .args .payloads .now)) (c .before .before .standing .ensures) (c .before .before .before .before .args .sender) (c .before .before .before .before .args .receiver) _ (c .if1 .taken)
 
--- src/calls.rt:50:9
 are-pair-requires : tie.Need-are-pair-requires
 are-pair-requires c κs = search needs
 
--- src/calls.rt:51:9
 returns-2 : tie.Need-returns-2
 unfolding sendJudged
 returns-2 c =
     let st = ground-stands (c .before .before .before .before .before .before .args .tables .now) (c .before .before .before .before .before .before .args .roles) (stateOf (c .before .before .before .before .before .before .args .heads .now) (c .before .before .before .before .before .before .args .counts .now) (c .before .before .before .before .before .before .args .labels .now) (c .before .before .before .before .before .before .args .payloads .now)) (c .before .before .before .before .standing .ensures) (c .before .before .if1 .left) in
     not-pair (c .before .before .before .before .before .before .args .tables .now) (c .before .before .before .before .before .before .args .roles) _ (stateOf (c .before .before .before .before .before .before .args .heads .now) (c .before .before .before .before .before .before .args .counts .now) (c .before .before .before .before .before .before .args .labels .now) (c .before .before .before .before .before .before .args .payloads .now)) st (c .before .before .before .before .before .before .args .sender) (c .before .before .before .before .before .before .args .receiver) _ (sym (c .before .are-pair .ensures) ∙ not-true (c .before .are-pair .result) (c .if2 .taken))
 
--- src/calls.rt:53:17
 mul-start : tie.Need-mul-start
 mul-start c =
     let st = ground-stands (c .before .before .before .before .before .before .before .args .tables .now) (c .before .before .before .before .before .before .before .args .roles) (stateOf (c .before .before .before .before .before .before .before .args .heads .now) (c .before .before .before .before .before .before .before .args .counts .now) (c .before .before .before .before .before .before .before .args .labels .now) (c .before .before .before .before .before .before .before .args .payloads .now)) (c .before .before .before .before .before .standing .ensures) (c .before .before .before .if1 .left) in
@@ -46,7 +34,6 @@ mul-start c =
     let i = pair-in (c .before .before .before .before .before .before .before .args .roles) (c .before .before .before .before .before .before .before .args .sender) (c .before .before .before .before .before .before .before .args .receiver) two in
     omega (arith, stood-start (c .before .before .before .before .before .before .before .args .tables .now) (c .before .before .before .before .before .before .before .args .roles) _ (stateOf (c .before .before .before .before .before .before .before .args .heads .now) (c .before .before .before .before .before .before .before .args .counts .now) (c .before .before .before .before .before .before .before .args .labels .now) (c .before .before .before .before .before .before .before .args .payloads .now)) st _ (i .0))
 
--- src/calls.rt:54:56
 mul-wide : tie.Need-mul-wide
 mul-wide c =
     let st = ground-stands (c .before .before .before .before .before .before .before .args .tables .now) (c .before .before .before .before .before .before .before .args .roles) (stateOf (c .before .before .before .before .before .before .before .args .heads .now) (c .before .before .before .before .before .before .before .args .counts .now) (c .before .before .before .before .before .before .before .args .labels .now) (c .before .before .before .before .before .before .before .args .payloads .now)) (c .before .before .before .before .before .standing .ensures) (c .before .before .before .if1 .left) in
@@ -55,7 +42,6 @@ mul-wide c =
     let i = pair-in (c .before .before .before .before .before .before .before .args .roles) (c .before .before .before .before .before .before .before .args .sender) (c .before .before .before .before .before .before .before .args .receiver) two in
     omega (arith, b .1, i .0)
 
--- src/calls.rt:54:56
 element-copy-out-wide : tie.Need-element-copy-out-wide
 element-copy-out-wide c =
     let st = ground-stands (c .before .before .before .before .before .before .before .args .tables .now) (c .before .before .before .before .before .before .before .args .roles) (stateOf (c .before .before .before .before .before .before .before .args .heads .now) (c .before .before .before .before .before .before .before .args .counts .now) (c .before .before .before .before .before .before .before .args .labels .now) (c .before .before .before .before .before .before .before .args .payloads .now)) (c .before .before .before .before .before .standing .ensures) (c .before .before .before .if1 .left) in
@@ -64,15 +50,12 @@ element-copy-out-wide c =
     let i = pair-in (c .before .before .before .before .before .before .before .args .roles) (c .before .before .before .before .before .before .before .args .sender) (c .before .before .before .before .before .before .before .args .receiver) two in
     omega (arith, b .1, i .0)
 
--- src/calls.rt:54:44
 wide-requires : tie.Need-wide-requires
 wide-requires c κs = search needs
 
--- src/calls.rt:54:9
 row-at-requires : tie.Need-row-at-requires
 row-at-requires c κs = search needs
 
--- src/calls.rt:55:24
 mul-count : tie.Need-mul-count
 mul-count c =
     let st = ground-stands (c .before .before .before .before .before .before .before .before .before .before .args .tables .now) (c .before .before .before .before .before .before .before .before .before .before .args .roles) (stateOf (c .before .before .before .before .before .before .before .before .before .before .args .heads .now) (c .before .before .before .before .before .before .before .before .before .before .args .counts .now) (c .before .before .before .before .before .before .before .before .before .before .args .labels .now) (c .before .before .before .before .before .before .before .before .before .before .args .payloads .now)) (c .before .before .before .before .before .before .before .before .standing .ensures) (c .before .before .before .before .before .before .if1 .left) in
@@ -81,7 +64,6 @@ mul-count c =
     let i = pair-in (c .before .before .before .before .before .before .before .before .before .before .args .roles) (c .before .before .before .before .before .before .before .before .before .before .args .sender) (c .before .before .before .before .before .before .before .before .before .before .args .receiver) two in
     omega (arith, b .1, i .0, i .1)
 
--- src/calls.rt:55:24
 add-count : tie.Need-add-count
 add-count c =
     let st = ground-stands (c .before .before .before .before .before .before .before .before .before .before .args .tables .now) (c .before .before .before .before .before .before .before .before .before .before .args .roles) (stateOf (c .before .before .before .before .before .before .before .before .before .before .args .heads .now) (c .before .before .before .before .before .before .before .before .before .before .args .counts .now) (c .before .before .before .before .before .before .before .before .before .before .args .labels .now) (c .before .before .before .before .before .before .before .before .before .before .args .payloads .now)) (c .before .before .before .before .before .before .before .before .standing .ensures) (c .before .before .before .before .before .before .if1 .left) in
@@ -90,7 +72,6 @@ add-count c =
     let i = pair-in (c .before .before .before .before .before .before .before .before .before .before .args .roles) (c .before .before .before .before .before .before .before .before .before .before .args .sender) (c .before .before .before .before .before .before .before .before .before .before .args .receiver) two in
     omega (arith, b .1, i .0, i .1)
 
--- src/calls.rt:55:17
 element-copy-out-count : tie.Need-element-copy-out-count
 element-copy-out-count c =
     let st = ground-stands (c .before .before .before .before .before .before .before .before .before .before .args .tables .now) (c .before .before .before .before .before .before .before .before .before .before .args .roles) (stateOf (c .before .before .before .before .before .before .before .before .before .before .args .heads .now) (c .before .before .before .before .before .before .before .before .before .before .args .counts .now) (c .before .before .before .before .before .before .before .before .before .before .args .labels .now) (c .before .before .before .before .before .before .before .before .before .before .args .payloads .now)) (c .before .before .before .before .before .before .before .before .standing .ensures) (c .before .before .before .before .before .before .if1 .left) in
@@ -99,11 +80,9 @@ element-copy-out-count c =
     let i = pair-in (c .before .before .before .before .before .before .before .before .before .before .args .roles) (c .before .before .before .before .before .before .before .before .before .before .args .sender) (c .before .before .before .before .before .before .before .before .before .before .args .receiver) two in
     omega (arith, b .1, i .0, i .1)
 
--- src/calls.rt:56:5
 send-turn-requires : tie.Need-send-turn-requires
 send-turn-requires c κs = search needs
 
--- src/calls.rt:43:1
 returns-3 : tie.Need-returns-3
 returns-3 c =
     let st = ground-stands (c .before .before .before .before .before .before .before .before .before .before .before .before .args .tables .now) (c .before .before .before .before .before .before .before .before .before .before .before .before .args .roles) (stateOf (c .before .before .before .before .before .before .before .before .before .before .before .before .args .heads .now) (c .before .before .before .before .before .before .before .before .before .before .before .before .args .counts .now) (c .before .before .before .before .before .before .before .before .before .before .before .before .args .labels .now) (c .before .before .before .before .before .before .before .before .before .before .before .before .args .payloads .now)) (c .before .before .before .before .before .before .before .before .before .before .standing .ensures) (c .before .before .before .before .before .before .before .before .if1 .left) in

@@ -1,41 +1,32 @@
 -- `calls::standing` meets its contract. Assumes nothing.
-use mathlib.Core.Path.{_≡_, sym, _∙_}
+use mathlib.Core.Path.{sym, _∙_}
 use borrow.Author.Tests.{not-true, not-false}
 use Rattle.session.specs.mirror.Judged.{groundOf}
 use Rattle.session.proofs.Judging.{bad-tables, good-tables}
 use borrow.Author.Needs.{needs}
 use Rattle.session.proofs.calls.standing.Statement.{statement}
 use Rattle.session.proofs.calls.standing.Tie as tie
-use Rattle.session.proofs.calls.standing.Reads as reads
-use Rattle.session.proofs.calls.standing.Lts as lts
-use Rattle.session.proofs.state.state_good.Reads as state-good-reads
-use Rattle.session.proofs.tables.rows_of.Reads as rows-of-reads
 
--- src/calls.rt:32:9
 rows-of-requires : tie.Need-rows-of-requires
 rows-of-requires c κs = search needs
 
--- src/calls.rt:34:9
 returns : tie.Need-returns
 unfolding groundOf
 returns c =
     let z = sym (c .if1 .taken) ∙ c .before .rows-of .ensures in
     rw (← z, bad-tables _ _ z)
 
--- src/calls.rt:36:9
 state-good-requires : tie.Need-state-good-requires
 state-good-requires c κs =
     let g = good-tables (c .before .before .before .args .tables .now) (c .before .before .before .args .roles) _ (c .before .rows-of .ensures) (c .if1 .left) in
     (g .1, g .2)
 
--- src/calls.rt:37:9
 returns-2 : tie.Need-returns-2
 unfolding groundOf
 returns-2 c =
     let g = good-tables (c .before .before .before .before .before .args .tables .now) (c .before .before .before .before .before .args .roles) _ (c .before .before .before .rows-of .ensures) (c .before .before .if1 .left) in
     rw (← (c .before .before .before .rows-of .ensures), g .0, ← (c .before .state-good .ensures), not-true (c .before .state-good .result) (c .if2 .taken))
 
--- src/calls.rt:29:1
 returns-3 : tie.Need-returns-3
 unfolding groundOf
 returns-3 c =

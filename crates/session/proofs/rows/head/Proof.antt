@@ -1,7 +1,6 @@
-use Prim.Native.Nat.{_-_, suc}
 -- `rows::head` meets its contract. The loop's invariant: what is left to follow from here is what was to follow. Assumes nothing.
+use Prim.Native.Nat.{_-_, suc}
 use borrow.Author.Needs.{needs}
-use Prim.Native.Nat.{_-_}
 use mathlib.Core.Path.{_≡_, refl, sym, _∙_}
 use mathlib.Core.Logic.{⊎-elim}
 use native.Mathlib.Omega.{arith}
@@ -9,10 +8,6 @@ use Rattle.session.specs.mirror.Rows.{followAt}
 use Rattle.session.proofs.Walk.{follow-loop, follow-back, follow-stays, follow-no-more}
 use Rattle.session.proofs.rows.head.Statement.{statement}
 use Rattle.session.proofs.rows.head.Tie as tie
-use Rattle.session.proofs.rows.head.Reads as reads
-use Rattle.session.proofs.rows.head.Lts as lts
-use Rattle.session.proofs.rows.row_at.Reads as row-at-reads
-use Rattle.words.proofs.wide.Reads as wide-reads
 
 abbrev Inv-loop : tie.InvT-loop
 Inv-loop tables start rows row at₀ left₀ at left = followAt rows tables start row ≡ followAt left tables start at
@@ -20,33 +15,26 @@ Inv-loop tables start rows row at₀ left₀ at left = followAt rows tables star
 abbrev μ-loop : tie.MeasureT-loop
 μ-loop tables start rows row at₀ left₀ at left = left
 
--- src/rows.rt:68:5
 loop-holds : tie.Need-loop-holds Inv-loop μ-loop
 loop-holds c = refl
 
--- src/rows.rt:69:41
 wide-requires : tie.Need-wide-requires Inv-loop μ-loop
 wide-requires c κs = search needs
 
--- src/rows.rt:69:13
 row-at-requires : tie.Need-row-at-requires Inv-loop μ-loop
 row-at-requires c κs = search needs
 
--- src/rows.rt:74:18
 returns : tie.Need-returns Inv-loop μ-loop
 returns c =
     let e : c .before .before .before .before .loop .left ≡ suc (c .before .before .before .before .loop .left - 1) = omega arith in
     sym (c .before .before .before .before .loop .inv ∙ follow-stays (c .before .before .before .before .before .before .args .tables .now) (c .before .before .before .before .before .before .args .start) e (c .before .before .wide .ensures .0) (c .before .row-at .ensures) (c .match .rest .0 .1) (c .match .rest .1))
 
--- src/rows.rt:76:9
 sub-left : tie.Need-sub-left Inv-loop μ-loop
 sub-left c = omega arith
 
--- src/rows.rt:68:5
 loop-less : tie.Need-loop-less Inv-loop μ-loop
 loop-less c = omega arith
 
--- src/rows.rt:68:5
 loop-again : tie.Need-loop-again Inv-loop μ-loop
 loop-again c =
     let e : c .before .before .before .before .loop .left ≡ suc (c .before .before .before .before .loop .left - 1) = omega arith in
@@ -55,7 +43,6 @@ loop-again c =
     (λ w. rw (w .1) (c .before .before .before .before .loop .inv ∙ follow-back (c .before .before .before .before .before .before .args .tables .now) (c .before .before .before .before .before .before .args .start) e (c .before .before .wide .ensures .0) (c .before .row-at .ensures) (w .0 .keys2)))
     (c .match .came)
 
--- src/rows.rt:63:1
 returns-2 : tie.Need-returns-2 Inv-loop μ-loop
 returns-2 c = sym (c .before .loop .inv ∙ follow-no-more _ _ _ (omega arith))
 

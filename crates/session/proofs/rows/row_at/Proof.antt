@@ -6,95 +6,70 @@ use Rattle.session.proofs.Walk.{words-past}
 use borrow.Author.Needs.{needs}
 use Rattle.session.proofs.rows.row_at.Statement.{statement}
 use Rattle.session.proofs.rows.row_at.Tie as tie
-use Rattle.session.proofs.rows.row_at.Reads as reads
-use Rattle.session.proofs.rows.row_at.Lts as lts
-use Rattle.words.proofs.word.Reads as word-reads
 
--- src/rows.rt:44:9
 returns : tie.Need-returns
 returns c = words-past (c .before .before .args .tables .now) (c .before .before .args .start + c .before .before .args .row) (omega arith)
 
--- src/rows.rt:47:19
 add-at : tie.Need-add-at
 add-at c = search needs
 
--- src/rows.rt:47:18
 mul-at : tie.Need-mul-at
 mul-at c = search needs
 
--- src/rows.rt:48:28
 mul-t13 : tie.Need-mul-t13
 mul-t13 c = search needs
 
--- src/rows.rt:48:28
 shared-slice-read-t15 : tie.Need-shared-slice-read-t15
 shared-slice-read-t15 c = search needs
 
--- src/rows.rt:48:54
 add-t16 : tie.Need-add-t16
 add-t16 c = search needs
 
--- src/rows.rt:48:47
 mul-t17 : tie.Need-mul-t17
 mul-t17 c = search needs
 
--- src/rows.rt:48:47
 shared-slice-read-t19 : tie.Need-shared-slice-read-t19
 shared-slice-read-t19 c = search needs
 
--- src/rows.rt:48:78
 add-t20 : tie.Need-add-t20
 add-t20 c = search needs
 
--- src/rows.rt:48:71
 mul-t21 : tie.Need-mul-t21
 mul-t21 c = search needs
 
--- src/rows.rt:48:71
 shared-slice-read-t23 : tie.Need-shared-slice-read-t23
 shared-slice-read-t23 c = search needs
 
--- src/rows.rt:48:101
 add-t24 : tie.Need-add-t24
 add-t24 c = search needs
 
--- src/rows.rt:48:94
 mul-t25 : tie.Need-mul-t25
 mul-t25 c = search needs
 
--- src/rows.rt:48:94
 shared-slice-read-t27 : tie.Need-shared-slice-read-t27
 shared-slice-read-t27 c = search needs
 
--- src/rows.rt:48:9
 returns-2 : tie.Need-returns-2
 returns-2 c = rw add-zero
 
--- src/rows.rt:51:9
 returns-3 : tie.Need-returns-3
 returns-3 c = words-past (c .before .before .before .before .args .tables .now) (c .before .before .before .before .args .start + c .before .before .before .before .args .row) (omega arith)
 
--- src/rows.rt:54:14
 add-at-2 : tie.Need-add-at-2
 add-at-2 c = search needs
 
--- src/rows.rt:55:9
 word-requires : tie.Need-word-requires
 word-requires c κs = search needs
 
--- src/rows.rt:56:9
 word-requires-2 : tie.Need-word-requires-2
 word-requires-2 c κs = search needs
 
--- src/rows.rt:57:9
 word-requires-3 : tie.Need-word-requires-3
 word-requires-3 c κs = search needs
 
--- src/rows.rt:58:9
 word-requires-4 : tie.Need-word-requires-4
 word-requires-4 c κs = search needs
 
--- src/rows.rt:39:1
 returns-4 : tie.Need-returns-4
 returns-4 c = rw (c .before .before .before .word .ensures, c .before .before .word2 .ensures, c .before .word3 .ensures, c .word4 .ensures)
 

@@ -1,26 +1,19 @@
 -- `rows::stands` meets its contract. Assumes nothing.
-use mathlib.Core.Path.{sym}
 use borrow.Author.Tests.{ne-eqb}
 use Rattle.session.proofs.RowTests.{is-head}
 use borrow.Author.Needs.{needs}
 use Rattle.session.proofs.rows.stands.Statement.{statement}
 use Rattle.session.proofs.rows.stands.Tie as tie
-use Rattle.session.proofs.rows.stands.Reads as reads
-use Rattle.session.proofs.rows.stands.Lts as lts
 
--- src/rows.rt:105:1
 returns : tie.Need-returns
 returns c = search needs
 
--- src/rows.rt:105:1
 returns-2 : tie.Need-returns-2
 returns-2 c = search needs
 
--- src/rows.rt:105:1
 returns-3 : tie.Need-returns-3
 returns-3 c = search needs
 
--- src/rows.rt:105:1
 returns-4 : tie.Need-returns-4
 returns-4 c = rw (is-head _ _ _ (c .before .args .part .kind), ne-eqb _ _ (c .match .rest .0 .0 .1), ne-eqb _ _ (c .match .rest .0 .1), ne-eqb _ _ (c .match .rest .1))
 

@@ -13,9 +13,6 @@ use Rattle.session.specs.mirror.State.{headGoodAt}
 use Rattle.session.proofs.Queues.{head-start}
 use Rattle.session.proofs.state.heads_good.Statement.{statement}
 use Rattle.session.proofs.state.heads_good.Tie as tie
-use Rattle.session.proofs.state.heads_good.Reads as reads
-use Rattle.session.proofs.state.heads_good.Lts as lts
-use Rattle.session.proofs.state.head_good.Reads as head-good-reads
 
 abbrev Inv-loop : tie.InvT-loop
 Inv-loop tables roles rows heads role₀ start₀ role start =
@@ -25,42 +22,33 @@ Inv-loop tables roles rows heads role₀ start₀ role start =
 abbrev μ-loop : tie.MeasureT-loop
 μ-loop tables roles rows heads role₀ start₀ role start = 8 - role
 
--- src/state.rt:50:5
 loop-holds : tie.Need-loop-holds Inv-loop μ-loop
 loop-holds c = (omega arith, omega (arith, zero-mul (c .before .args .rows)), omega arith, below-none _)
 
--- src/state.rt:51:57
 mul-head-good : tie.Need-mul-head-good Inv-loop μ-loop
 mul-head-good c = omega arith
 
--- src/state.rt:51:57
 element-copy-out-head-good : tie.Need-element-copy-out-head-good Inv-loop μ-loop
 element-copy-out-head-good c = search needs
 
--- src/state.rt:51:13
 head-good-requires : tie.Need-head-good-requires Inv-loop μ-loop
 head-good-requires c κs = search needs
 
--- src/state.rt:52:13
 returns : tie.Need-returns Inv-loop μ-loop
 returns c =
     sym
     (every-fails _ _ (c .before .before .before .before .loop .role) (omega arith)
     (sym (head-start (c .before .before .before .before .before .before .args .tables .now) _ _ _ _ _ (c .before .before .before .before .loop .inv .1)) ∙ sym (c .before .head-good .ensures) ∙ not-true _ (c .if1 .taken)))
 
--- src/state.rt:54:9
 add-start : tie.Need-add-start Inv-loop μ-loop
 add-start c = omega arith
 
--- src/state.rt:55:9
 add-role : tie.Need-add-role Inv-loop μ-loop
 add-role c = omega arith
 
--- src/state.rt:50:5
 loop-less : tie.Need-loop-less Inv-loop μ-loop
 loop-less c = omega arith
 
--- src/state.rt:50:5
 loop-again : tie.Need-loop-again Inv-loop μ-loop
 loop-again c = (
   omega arith,
@@ -69,7 +57,6 @@ loop-again c = (
   below-more _ _ (c .before .before .before .before .loop .inv .3) (sym (head-start (c .before .before .before .before .before .before .args .tables .now) _ _ _ _ _ (c .before .before .before .before .loop .inv .1)) ∙ sym (c .before .head-good .ensures) ∙ not-false _ (c .if1 .left)),
 )
 
--- src/state.rt:44:1
 returns-2 : tie.Need-returns-2 Inv-loop μ-loop
 returns-2 c = sym (every-all _ _ (λ k l. c .before .loop .inv .3 k (omega arith)))
 

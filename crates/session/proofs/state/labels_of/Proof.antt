@@ -3,42 +3,31 @@ use native.Mathlib.Nat.{add-zero}
 use borrow.Author.Needs.{needs}
 use Rattle.session.proofs.state.labels_of.Statement.{statement}
 use Rattle.session.proofs.state.labels_of.Tie as tie
-use Rattle.session.proofs.state.labels_of.Reads as reads
-use Rattle.session.proofs.state.labels_of.Lts as lts
 
--- src/state.rt:65:14
 mul-at : tie.Need-mul-at
 mul-at c = search needs
 
--- src/state.rt:66:6
 element-copy-out-t6 : tie.Need-element-copy-out-t6
 element-copy-out-t6 c = search needs
 
--- src/state.rt:66:25
 add-t7 : tie.Need-add-t7
 add-t7 c = search needs
 
--- src/state.rt:66:18
 element-copy-out-t10 : tie.Need-element-copy-out-t10
 element-copy-out-t10 c = search needs
 
--- src/state.rt:66:41
 add-t11 : tie.Need-add-t11
 add-t11 c = search needs
 
--- src/state.rt:66:34
 element-copy-out-t14 : tie.Need-element-copy-out-t14
 element-copy-out-t14 c = search needs
 
--- src/state.rt:66:57
 add-t15 : tie.Need-add-t15
 add-t15 c = search needs
 
--- src/state.rt:66:50
 element-copy-out-t18 : tie.Need-element-copy-out-t18
 element-copy-out-t18 c = search needs
 
--- src/state.rt:61:1
 returns : tie.Need-returns
 returns c = rw add-zero
 

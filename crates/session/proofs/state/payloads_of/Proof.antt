@@ -3,58 +3,43 @@ use native.Mathlib.Nat.{add-zero}
 use borrow.Author.Needs.{needs}
 use Rattle.session.proofs.state.payloads_of.Statement.{statement}
 use Rattle.session.proofs.state.payloads_of.Tie as tie
-use Rattle.session.proofs.state.payloads_of.Reads as reads
-use Rattle.session.proofs.state.payloads_of.Lts as lts
 
--- src/state.rt:74:14
 mul-at : tie.Need-mul-at
 mul-at c = search needs
 
--- src/state.rt:75:6
 mul-t4 : tie.Need-mul-t4
 mul-t4 c = search needs
 
--- src/state.rt:75:6
 element-copy-out-t7 : tie.Need-element-copy-out-t7
 element-copy-out-t7 c = search needs
 
--- src/state.rt:75:29
 add-t8 : tie.Need-add-t8
 add-t8 c = search needs
 
--- src/state.rt:75:20
 mul-t9 : tie.Need-mul-t9
 mul-t9 c = search needs
 
--- src/state.rt:75:20
 element-copy-out-t12 : tie.Need-element-copy-out-t12
 element-copy-out-t12 c = search needs
 
--- src/state.rt:75:47
 add-t13 : tie.Need-add-t13
 add-t13 c = search needs
 
--- src/state.rt:75:38
 mul-t14 : tie.Need-mul-t14
 mul-t14 c = search needs
 
--- src/state.rt:75:38
 element-copy-out-t17 : tie.Need-element-copy-out-t17
 element-copy-out-t17 c = search needs
 
--- src/state.rt:75:65
 add-t18 : tie.Need-add-t18
 add-t18 c = search needs
 
--- src/state.rt:75:56
 mul-t19 : tie.Need-mul-t19
 mul-t19 c = search needs
 
--- src/state.rt:75:56
 element-copy-out-t22 : tie.Need-element-copy-out-t22
 element-copy-out-t22 c = search needs
 
--- src/state.rt:70:1
 returns : tie.Need-returns
 returns c = rw add-zero
 

@@ -1,78 +1,59 @@
+-- `state::put_payloads` meets its contract. Assumes nothing.
 use Prim.Native.Nat.{_*_}
 use lib.ListN.{getD}
--- `state::put_payloads` meets its contract. Assumes nothing.
 use Rattle.session.proofs.Calling.{four-sets}
 use borrow.Author.Needs.{needs}
 use Rattle.session.proofs.state.put_payloads.Statement.{statement}
 use Rattle.session.proofs.state.put_payloads.Tie as tie
-use Rattle.session.proofs.state.put_payloads.Reads as reads
-use Rattle.session.proofs.state.put_payloads.Lts as lts
 
--- src/state.rt:96:14
 mul-at : tie.Need-mul-at
 mul-at c = search needs
 
--- src/state.rt:97:20
 array-read-payloads : tie.Need-array-read-payloads
 array-read-payloads c = search needs
 
--- src/state.rt:97:5
 mul-payloads : tie.Need-mul-payloads
 mul-payloads c = search needs
 
--- src/state.rt:97:5
 element-write-payloads : tie.Need-element-write-payloads
 element-write-payloads c = search needs
 
--- src/state.rt:98:24
 array-read-payloads-2 : tie.Need-array-read-payloads-2
 array-read-payloads-2 c = search needs
 
--- src/state.rt:98:14
 add-payloads : tie.Need-add-payloads
 add-payloads c = search needs
 
--- src/state.rt:98:5
 mul-payloads-2 : tie.Need-mul-payloads-2
 mul-payloads-2 c = search needs
 
--- src/state.rt:98:5
 element-write-payloads-2 : tie.Need-element-write-payloads-2
 element-write-payloads-2 c = search needs
 
--- src/state.rt:99:24
 array-read-payloads-3 : tie.Need-array-read-payloads-3
 array-read-payloads-3 c = search needs
 
--- src/state.rt:99:14
 add-payloads-2 : tie.Need-add-payloads-2
 add-payloads-2 c = search needs
 
--- src/state.rt:99:5
 mul-payloads-3 : tie.Need-mul-payloads-3
 mul-payloads-3 c = search needs
 
--- src/state.rt:99:5
 element-write-payloads-3 : tie.Need-element-write-payloads-3
 element-write-payloads-3 c = search needs
 
--- src/state.rt:100:24
 array-read-payloads-4 : tie.Need-array-read-payloads-4
 array-read-payloads-4 c = search needs
 
--- src/state.rt:100:14
 add-payloads-3 : tie.Need-add-payloads-3
 add-payloads-3 c = search needs
 
--- src/state.rt:100:5
 mul-payloads-4 : tie.Need-mul-payloads-4
 mul-payloads-4 c = search needs
 
--- src/state.rt:100:5
 element-write-payloads-4 : tie.Need-element-write-payloads-4
 element-write-payloads-4 c = search needs
 
--- src/state.rt:92:1
 returns : tie.Need-returns
 returns c =
     four-sets (c .args .payloads .now) (c .args .pair * 4) (getD (c .args .t3) 0 0) (getD (c .args .t3) 1 0) (getD (c .args .t3) 2 0) (getD (c .args .t3) 3 0)

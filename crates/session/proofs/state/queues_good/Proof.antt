@@ -12,9 +12,6 @@ use Rattle.session.specs.State.{queueGood}
 use Rattle.session.specs.mirror.State.{queues}
 use Rattle.session.proofs.state.queues_good.Statement.{statement}
 use Rattle.session.proofs.state.queues_good.Tie as tie
-use Rattle.session.proofs.state.queues_good.Reads as reads
-use Rattle.session.proofs.state.queues_good.Lts as lts
-use Rattle.session.proofs.state.sender_good.Reads as sender-good-reads
 
 abbrev Inv-loop : tie.InvT-loop
 Inv-loop roles counts labels payloads sender₀ sender = (sender ≤ 8) × ((k : ℕ) → k < sender → every (λ q. queueGood base roles (queues counts labels payloads) k q) 8 ≡ true)
@@ -22,31 +19,24 @@ Inv-loop roles counts labels payloads sender₀ sender = (sender ≤ 8) × ((k :
 abbrev μ-loop : tie.MeasureT-loop
 μ-loop roles counts labels payloads sender₀ sender = 8 - sender
 
--- src/state.rt:124:5
 loop-holds : tie.Need-loop-holds Inv-loop μ-loop
 loop-holds c = (omega arith, below-none _)
 
--- src/state.rt:125:13
 sender-good-requires : tie.Need-sender-good-requires Inv-loop μ-loop
 sender-good-requires c κs = omega arith
 
--- src/state.rt:126:13
 returns : tie.Need-returns Inv-loop μ-loop
 returns c = sym (every-fails _ _ (c .before .before .before .loop .sender) (omega arith) (sym (c .before .sender-good .ensures) ∙ not-true _ (c .if1 .taken)))
 
--- src/state.rt:128:9
 add-sender : tie.Need-add-sender Inv-loop μ-loop
 add-sender c = omega arith
 
--- src/state.rt:124:5
 loop-less : tie.Need-loop-less Inv-loop μ-loop
 loop-less c = omega arith
 
--- src/state.rt:124:5
 loop-again : tie.Need-loop-again Inv-loop μ-loop
 loop-again c = (omega arith, below-more _ _ (c .before .before .before .loop .inv .1) (sym (c .before .sender-good .ensures) ∙ not-false _ (c .if1 .left)))
 
--- src/state.rt:120:1
 returns-2 : tie.Need-returns-2 Inv-loop μ-loop
 returns-2 c = sym (every-all _ _ (λ k l. c .before .loop .inv .1 k (omega arith)))
 

@@ -3,20 +3,13 @@ use Rattle.session.proofs.Queues.{state-read}
 use borrow.Author.Needs.{needs}
 use Rattle.session.proofs.state.state_good.Statement.{statement}
 use Rattle.session.proofs.state.state_good.Tie as tie
-use Rattle.session.proofs.state.state_good.Reads as reads
-use Rattle.session.proofs.state.state_good.Lts as lts
-use Rattle.session.proofs.state.heads_good.Reads as heads-good-reads
-use Rattle.session.proofs.state.queues_good.Reads as queues-good-reads
 
--- src/state.rt:138:9
 heads-good-requires : tie.Need-heads-good-requires
 heads-good-requires c κs = search needs
 
--- src/state.rt:139:16
 queues-good-requires : tie.Need-queues-good-requires
 queues-good-requires c κs = search needs
 
--- src/state.rt:134:1
 returns : tie.Need-returns
 returns c =
     rw (c .before .heads-good .ensures, c .queues-good .ensures)

@@ -6,30 +6,22 @@ use native.Mathlib.Omega.{arith}
 use Rattle.session.proofs.Good.{roles-in}
 use Rattle.session.proofs.tables.block_rows.Statement.{statement}
 use Rattle.session.proofs.tables.block_rows.Tie as tie
-use Rattle.session.proofs.tables.block_rows.Reads as reads
-use Rattle.session.proofs.tables.block_rows.Lts as lts
 
--- src/tables.rt:152:9
 returns : tie.Need-returns
 returns c = rw (c .if1 .taken)
 
--- src/tables.rt:154:16
 div-rows : tie.Need-div-rows
 div-rows c = omega (arith, roles-in (c .before .args .roles) (c .if1 .left))
 
--- src/tables.rt:155:9
 mul-if2 : tie.Need-mul-if2
 mul-if2 c = omega (arith, mul-div-le (length (c .before .args .tables .now) / 4) (c .before .args .roles))
 
--- src/tables.rt:155:9
 mul-if2-2 : tie.Need-mul-if2-2
 mul-if2-2 c = omega (arith, mul-div-le (length (c .before .args .tables .now) / 4) (c .before .args .roles))
 
--- src/tables.rt:148:1
 returns-2 : tie.Need-returns-2
 returns-2 c = rw (c .before .if1 .left, c .if2 .taken)
 
--- src/tables.rt:148:1
 returns-3 : tie.Need-returns-3
 returns-3 c = rw (c .before .if1 .left, c .if2 .left)
 

@@ -14,9 +14,6 @@ use Rattle.session.specs.mirror.Tables.{rowGoodAt}
 use Rattle.session.proofs.Good.{block-start}
 use Rattle.session.proofs.tables.blocks_good.Statement.{statement}
 use Rattle.session.proofs.tables.blocks_good.Tie as tie
-use Rattle.session.proofs.tables.blocks_good.Reads as reads
-use Rattle.session.proofs.tables.blocks_good.Lts as lts
-use Rattle.session.proofs.tables.block_good.Reads as block-good-reads
 
 abbrev Inv-loop : tie.InvT-loop
 Inv-loop tables roles rows role₀ start₀ role start =
@@ -26,34 +23,27 @@ Inv-loop tables roles rows role₀ start₀ role start =
 abbrev μ-loop : tie.MeasureT-loop
 μ-loop tables roles rows role₀ start₀ role start = roles - role
 
--- src/tables.rt:136:5
 loop-holds : tie.Need-loop-holds Inv-loop μ-loop
 loop-holds c = (omega arith, omega (arith, zero-mul (c .before .args .rows)), omega arith, below-none _)
 
--- src/tables.rt:137:13
 block-good-requires : tie.Need-block-good-requires Inv-loop μ-loop
 block-good-requires c κs = search needs
 
--- src/tables.rt:138:13
 returns : tie.Need-returns Inv-loop μ-loop
 returns c =
     sym
     (every-fails _ _ (c .before .before .before .loop .role) (omega arith)
     (sym (block-start _ _ _ _ _ (c .before .before .before .loop .inv .1)) ∙ sym (c .before .block-good .ensures) ∙ not-true _ (c .if1 .taken)))
 
--- src/tables.rt:140:9
 add-start : tie.Need-add-start Inv-loop μ-loop
 add-start c = omega arith
 
--- src/tables.rt:141:9
 add-role : tie.Need-add-role Inv-loop μ-loop
 add-role c = omega arith
 
--- src/tables.rt:136:5
 loop-less : tie.Need-loop-less Inv-loop μ-loop
 loop-less c = omega arith
 
--- src/tables.rt:136:5
 loop-again : tie.Need-loop-again Inv-loop μ-loop
 loop-again c = (
   omega arith,
@@ -62,7 +52,6 @@ loop-again c = (
   below-more _ _ (c .before .before .before .loop .inv .3) (sym (block-start _ _ _ _ _ (c .before .before .before .loop .inv .1)) ∙ sym (c .before .block-good .ensures) ∙ not-false _ (c .if1 .left)),
 )
 
--- src/tables.rt:130:1
 returns-2 : tie.Need-returns-2 Inv-loop μ-loop
 returns-2 c = sym (every-all _ _ (λ k l. c .before .loop .inv .3 k (omega arith)))
 

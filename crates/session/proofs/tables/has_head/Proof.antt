@@ -3,30 +3,19 @@ use Rattle.session.proofs.Walk.{row-read}
 use borrow.Author.Needs.{needs}
 use Rattle.session.proofs.tables.has_head.Statement.{statement}
 use Rattle.session.proofs.tables.has_head.Tie as tie
-use Rattle.session.proofs.tables.has_head.Reads as reads
-use Rattle.session.proofs.tables.has_head.Lts as lts
-use Rattle.session.proofs.rows.head.Reads as head-reads
-use Rattle.session.proofs.rows.row_at.Reads as row-at-reads
-use Rattle.session.proofs.rows.stands.Reads as stands-reads
-use Rattle.words.proofs.wide.Reads as wide-reads
 
--- src/tables.rt:98:9
 head-requires : tie.Need-head-requires
 head-requires c κs = search needs
 
--- src/tables.rt:99:46
 wide-requires : tie.Need-wide-requires
 wide-requires c κs = search needs
 
--- src/tables.rt:99:18
 row-at-requires : tie.Need-row-at-requires
 row-at-requires c κs = search needs
 
--- src/tables.rt:99:5
 stands-requires : tie.Need-stands-requires
 stands-requires c κs = search needs
 
--- src/tables.rt:95:1
 returns : tie.Need-returns
 returns c = rw (c .stands .ensures, ← (c .before .before .before .head .ensures), row-read (c .before .before .before .before .before .args .tables .now) (c .before .before .before .before .before .args .start) (c .before .before .wide .ensures .0) (c .before .row-at .ensures))
 

@@ -2,15 +2,10 @@
 use borrow.Author.Needs.{needs}
 use Rattle.session.proofs.tables.is_peer.Statement.{statement}
 use Rattle.session.proofs.tables.is_peer.Tie as tie
-use Rattle.session.proofs.tables.is_peer.Reads as reads
-use Rattle.session.proofs.tables.is_peer.Lts as lts
-use Rattle.words.proofs.wide.Reads as wide-reads
 
--- src/tables.rt:55:9
 wide-requires : tie.Need-wide-requires
 wide-requires c κs = search needs
 
--- src/tables.rt:52:1
 returns : tie.Need-returns
 returns c = rw (c .wide .ensures .0)
 

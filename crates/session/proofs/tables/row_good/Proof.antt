@@ -1,57 +1,42 @@
 -- `tables::row_good` meets its contract. Assumes nothing.
 use Prim.Native.Nat.{suc, _-_}
-use mathlib.Core.Path.{_≡_, ap₂, _∙_}
-use mathlib.Core.Bool.{_&&_}
+use mathlib.Core.Path.{_≡_}
 use native.Mathlib.Omega.{arith}
 use Rattle.session.proofs.Good.{good-loop, good-back, good-alone}
 use borrow.Author.Needs.{needs}
 use Rattle.session.proofs.tables.row_good.Statement.{statement}
 use Rattle.session.proofs.tables.row_good.Tie as tie
-use Rattle.session.proofs.tables.row_good.Reads as reads
-use Rattle.session.proofs.tables.row_good.Lts as lts
-use Rattle.session.proofs.rows.row_at.Reads as row-at-reads
-use Rattle.session.proofs.tables.has_head.Reads as has-head-reads
-use Rattle.session.proofs.tables.row_holds.Reads as row-holds-reads
 
--- src/tables.rt:107:9
 row-at-requires : tie.Need-row-at-requires
 row-at-requires c κs = search needs
 
--- src/tables.rt:108:9
 row-holds-requires : tie.Need-row-holds-requires
 row-holds-requires c κs = search needs
 
--- src/tables.rt:111:54
 sub-has-head : tie.Need-sub-has-head
 sub-has-head c = search needs
 
--- src/tables.rt:111:30
 has-head-requires : tie.Need-has-head-requires
 has-head-requires c κs = search needs
 
--- src/tables.rt:112:54
 sub-has-head-2 : tie.Need-sub-has-head-2
 sub-has-head-2 c = search needs
 
--- src/tables.rt:112:30
 has-head-requires-2 : tie.Need-has-head-requires-2
 has-head-requires-2 c κs = search needs
 
--- src/tables.rt:103:1
 returns : tie.Need-returns
 returns c =
     let e : c .before .before .before .before .before .args .rows ≡ suc (c .before .before .before .before .before .args .rows - 1) = omega arith in
     rw (c .before .before .row-holds .ensures, c .has-head .ensures)
     (good-loop (c .before .before .before .before .before .args .tables .now) (c .before .before .before .before .before .args .roles) (c .before .before .before .before .before .args .rows) (c .before .before .before .before .before .args .start) (c .before .before .before .before .before .args .role) (c .before .before .before .before .before .args .row) e (c .before .before .before .row-at .ensures) (c .before .match .keys1))
 
--- src/tables.rt:103:1
 returns-2 : tie.Need-returns-2
 returns-2 c =
     let e : c .before .before .before .before .before .args .rows ≡ suc (c .before .before .before .before .before .args .rows - 1) = omega arith in
     rw (c .before .before .row-holds .ensures, c .has-head2 .ensures)
     (good-back (c .before .before .before .before .before .args .tables .now) (c .before .before .before .before .before .args .roles) (c .before .before .before .before .before .args .rows) (c .before .before .before .before .before .args .start) (c .before .before .before .before .before .args .role) (c .before .before .before .before .before .args .row) e (c .before .before .before .row-at .ensures) (c .before .match .keys2))
 
--- src/tables.rt:103:1
 returns-3 : tie.Need-returns-3
 returns-3 c =
     let e : c .before .before .before .before .args .rows ≡ suc (c .before .before .before .before .args .rows - 1) = omega arith in

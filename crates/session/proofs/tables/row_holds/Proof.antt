@@ -1,86 +1,61 @@
 -- `tables::row_holds` meets its contract: one line for each kind. Assumes nothing.
-use mathlib.Core.Path.{ap, sym}
 use Rattle.session.specs.mirror.Tables.{rowHoldsAt}
 use Rattle.session.proofs.RowTests.{other-kind}
 use borrow.Author.Needs.{needs}
 use Rattle.session.proofs.tables.row_holds.Statement.{statement}
 use Rattle.session.proofs.tables.row_holds.Tie as tie
-use Rattle.session.proofs.tables.row_holds.Reads as reads
-use Rattle.session.proofs.tables.row_holds.Lts as lts
-use Rattle.session.proofs.tables.is_peer.Reads as is-peer-reads
-use Rattle.session.proofs.tables.to_arm.Reads as to-arm-reads
-use Rattle.session.proofs.tables.to_loop.Reads as to-loop-reads
-use Rattle.session.proofs.tables.to_next.Reads as to-next-reads
-use Rattle.session.proofs.tables.to_other.Reads as to-other-reads
-use Rattle.words.proofs.wide.Reads as wide-reads
 
--- src/tables.rt:67:23
 wide-requires : tie.Need-wide-requires
 wide-requires c κs = search needs
 
--- src/tables.rt:68:17
 to-other-requires : tie.Need-to-other-requires
 to-other-requires c κs = search needs
 
--- src/tables.rt:69:17
 to-next-requires : tie.Need-to-next-requires
 to-next-requires c κs = search needs
 
--- src/tables.rt:73:17
 to-other-requires-2 : tie.Need-to-other-requires-2
 to-other-requires-2 c κs = search needs
 
--- src/tables.rt:77:17
 to-loop-requires : tie.Need-to-loop-requires
 to-loop-requires c κs = search needs
 
--- src/tables.rt:81:17
 is-peer-requires : tie.Need-is-peer-requires
 is-peer-requires c κs = search needs
 
--- src/tables.rt:82:17
 to-arm-requires : tie.Need-to-arm-requires
 to-arm-requires c κs = search needs
 
--- src/tables.rt:86:17
 is-peer-requires-2 : tie.Need-is-peer-requires-2
 is-peer-requires-2 c κs = search needs
 
--- src/tables.rt:87:17
 to-arm-requires-2 : tie.Need-to-arm-requires-2
 to-arm-requires-2 c κs = search needs
 
--- src/tables.rt:60:1
 returns : tie.Need-returns
 unfolding rowHoldsAt
 returns c = rw (c .before .before .before .match .keys1)
 
--- src/tables.rt:60:1
 returns-2 : tie.Need-returns-2
 unfolding rowHoldsAt
 returns-2 c = rw (c .before .before .before .match .keys2, c .before .before .wide .ensures .0, c .before .to-other .ensures, c .to-next .ensures)
 
--- src/tables.rt:60:1
 returns-3 : tie.Need-returns-3
 unfolding rowHoldsAt
 returns-3 c = rw (c .before .before .before .match .keys3, c .before .before .to-other2 .ensures)
 
--- src/tables.rt:60:1
 returns-4 : tie.Need-returns-4
 unfolding rowHoldsAt
 returns-4 c = rw (c .before .before .before .match .keys4, c .before .before .to-loop .ensures)
 
--- src/tables.rt:60:1
 returns-5 : tie.Need-returns-5
 unfolding rowHoldsAt
 returns-5 c = rw (c .before .before .before .match .keys5, c .before .before .is-peer .ensures, c .before .to-arm .ensures)
 
--- src/tables.rt:60:1
 returns-6 : tie.Need-returns-6
 unfolding rowHoldsAt
 returns-6 c = rw (c .before .before .before .match .keys6, c .before .before .is-peer2 .ensures, c .before .to-arm2 .ensures)
 
--- src/tables.rt:60:1
 returns-7 : tie.Need-returns-7
 unfolding rowHoldsAt
 returns-7 c = rw (other-kind _ _ _ _ (c .match .rest .0 .0 .0 .0 .0 .1) (c .match .rest .0 .0 .0 .0 .1) (c .match .rest .0 .0 .0 .1) (c .match .rest .0 .0 .1) (c .match .rest .0 .1) (c .match .rest .1))

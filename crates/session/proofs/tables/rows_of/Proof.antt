@@ -1,37 +1,27 @@
 -- `tables::rows_of` meets its contract. Assumes nothing.
-use mathlib.Core.Path.{_≡_, sym, _∙_}
-use native.Mathlib.Omega.{arith}
+use mathlib.Core.Path.{sym, _∙_}
 use Rattle.session.proofs.Good.{sized-none, sized-some, sized-bounds, rows-good}
 use borrow.Author.Needs.{needs}
 use Rattle.session.proofs.tables.rows_of.Statement.{statement}
 use Rattle.session.proofs.tables.rows_of.Tie as tie
-use Rattle.session.proofs.tables.rows_of.Reads as reads
-use Rattle.session.proofs.tables.rows_of.Lts as lts
-use Rattle.session.proofs.tables.block_rows.Reads as block-rows-reads
-use Rattle.session.proofs.tables.blocks_good.Reads as blocks-good-reads
 
--- src/tables.rt:166:9
 block-rows-requires : tie.Need-block-rows-requires
 block-rows-requires c κs = search needs
 
--- src/tables.rt:168:9
 returns : tie.Need-returns
 returns c = sized-none _ _ (sym (c .if1 .taken) ∙ c .before .block-rows .ensures)
 
--- src/tables.rt:170:8
 blocks-good-requires : tie.Need-blocks-good-requires
 blocks-good-requires c κs =
     let s = sized-some (c .before .before .before .args .tables .now) (c .before .before .before .args .roles) _ (c .before .block-rows .ensures) (c .if1 .left) in
     let b = sized-bounds (c .before .before .before .args .tables .now) (c .before .before .before .args .roles) _ s in
     (b .1, b .3)
 
--- src/tables.rt:163:1
 returns-2 : tie.Need-returns-2
 returns-2 c =
     let s = sized-some (c .before .before .before .before .before .args .tables .now) (c .before .before .before .before .before .args .roles) _ (c .before .before .before .block-rows .ensures) (c .before .before .if1 .left) in
     rows-good (c .before .before .before .before .before .args .tables .now) (c .before .before .before .before .before .args .roles) _ s _ (sym (c .if2 .taken) ∙ c .before .blocks-good .ensures)
 
--- src/tables.rt:163:1
 returns-3 : tie.Need-returns-3
 returns-3 c =
     let s = sized-some (c .before .before .before .before .before .args .tables .now) (c .before .before .before .before .before .args .roles) _ (c .before .before .before .block-rows .ensures) (c .before .before .if1 .left) in

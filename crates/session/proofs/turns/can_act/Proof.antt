@@ -13,84 +13,60 @@ use Rattle.session.proofs.Turning.{found-nothing, found-at, no-action}
 use borrow.Author.Needs.{needs}
 use Rattle.session.proofs.turns.can_act.Statement.{statement}
 use Rattle.session.proofs.turns.can_act.Tie as tie
-use Rattle.session.proofs.turns.can_act.Reads as reads
-use Rattle.session.proofs.turns.can_act.Lts as lts
-use Rattle.session.proofs.rows.find_arm.Reads as find-arm-reads
-use Rattle.session.proofs.state.labels_of.Reads as labels-of-reads
-use Rattle.session.proofs.state.wide.Reads as state-wide-reads
-use Rattle.words.proofs.wide.Reads as wide-reads
 
--- src/turns.rt:77:24
 mul-pair : tie.Need-mul-pair
 mul-pair c = search needs
 
--- src/turns.rt:77:48
 wide-requires : tie.Need-wide-requires
 wide-requires c κs = search needs
 
--- src/turns.rt:77:24
 add-pair : tie.Need-add-pair
 add-pair c = search needs
 
--- src/turns.rt:78:25
 element-copy-out-wide : tie.Need-element-copy-out-wide
 element-copy-out-wide c = omega (arith, c .before .before .before .pre .1 .0 (c .before .match .keys1), c .wide .ensures)
 
--- src/turns.rt:78:13
 wide-requires-2 : tie.Need-wide-requires-2
 wide-requires-2 c κs = search needs
 
--- src/turns.rt:81:24
 wide-requires-3 : tie.Need-wide-requires-3
 wide-requires-3 c κs = search needs
 
--- src/turns.rt:81:24
 mul-pair-2 : tie.Need-mul-pair-2
 mul-pair-2 c = search needs
 
--- src/turns.rt:81:24
 add-pair-2 : tie.Need-add-pair-2
 add-pair-2 c = search needs
 
--- src/turns.rt:82:16
 element-copy-out-if1 : tie.Need-element-copy-out-if1
 element-copy-out-if1 c = omega (arith, c .before .before .before .pre .1 .1 (c .before .match .keys2), c .wide3 .ensures)
 
--- src/turns.rt:83:17
 returns : tie.Need-returns
 unfolding actsAt
 returns c = rw (c .before .before .before .match .keys2, ← (c .before .before .wide3 .ensures .0), c .if1 .taken)
 
--- src/turns.rt:85:24
 labels-of-requires : tie.Need-labels-of-requires
 labels-of-requires c κs = omega (arith, c .before .before .before .before .before .pre .1 .1 (c .before .before .before .match .keys2), c .before .before .wide3 .ensures)
 
--- src/turns.rt:86:86
 array-read-wide : tie.Need-array-read-wide
 array-read-wide c = search needs
 
--- src/turns.rt:86:74
 wide-requires-4 : tie.Need-wide-requires-4
 wide-requires-4 c κs = search needs
 
--- src/turns.rt:86:17
 find-arm-requires : tie.Need-find-arm-requires
 find-arm-requires c κs = search needs
 
--- src/turns.rt:88:35
 enum-told : tie.Need-enum-told
 enum-told c = search needs
 
--- src/turns.rt:89:33
 enum-told-2 : tie.Need-enum-told-2
 enum-told-2 c = search needs
 
--- src/turns.rt:70:1
 returns-2 : tie.Need-returns-2
 unfolding actsAt
 returns-2 c = rw (c .before .before .before .match .keys1, c .wide2 .ensures .0, c .before .before .wide .ensures .0)
 
--- src/turns.rt:70:1
 returns-3 : tie.Need-returns-3
 unfolding actsAt
 returns-3 c =
@@ -100,7 +76,6 @@ returns-3 c =
     let o = find (c .before .before .before .wide4 .result) (chainAt (c .before .before .before .before .before .before .before .before .before .before .args .rows) (c .before .before .before .before .before .before .before .before .before .before .args .tables .now) (c .before .before .before .before .before .before .before .before .before .before .args .start) (c .before .before .before .before .before .before .before .before .before .before .args .part .second)) in
     rw (c .before .before .before .before .before .before .before .before .match .keys2, ← (c .before .before .before .before .before .before .before .wide3 .ensures .0), lt-ltb _ _ n, ← e, found-nothing o (sym (c .before .before .find-arm .ensures) ∙ c .enum-told .given .1))
 
--- src/turns.rt:70:1
 returns-4 : tie.Need-returns-4
 unfolding actsAt
 returns-4 c =
@@ -110,7 +85,6 @@ returns-4 c =
     let o = find (c .before .before .before .wide4 .result) (chainAt (c .before .before .before .before .before .before .before .before .before .before .args .rows) (c .before .before .before .before .before .before .before .before .before .before .args .tables .now) (c .before .before .before .before .before .before .before .before .before .before .args .start) (c .before .before .before .before .before .before .before .before .before .before .args .part .second)) in
     rw (c .before .before .before .before .before .before .before .before .match .keys2, ← (c .before .before .before .before .before .before .before .wide3 .ensures .0), lt-ltb _ _ n, ← e, found-at o _ (sym (c .before .before .find-arm .ensures) ∙ c .enum-told2 .given .1))
 
--- src/turns.rt:70:1
 returns-5 : tie.Need-returns-5
 returns-5 c = no-action base _ _ _ _ _ _ _ _ _ (c .match .rest .0 .1) (c .match .rest .1)
 

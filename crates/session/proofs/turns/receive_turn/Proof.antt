@@ -1,7 +1,7 @@
+-- `turns::receive_turn` meets its contract. Assumes nothing.
 use Rattle.session.specs.Head.{find}
 use Rattle.session.specs.mirror.Rows.{chainAt}
--- `turns::receive_turn` meets its contract. Assumes nothing.
-use mathlib.Core.Path.{_≡_, sym, _∙_}
+use mathlib.Core.Path.{sym, _∙_}
 use borrow.Author.Tests.{eq-eqb, ne-eqb}
 use Rattle.table.specs.Limits.{base}
 use Rattle.session.specs.mirror.Turns.{receiveTurn, receiveFound}
@@ -9,48 +9,33 @@ use Rattle.session.proofs.Turning.{found-nothing, found-at, no-receive}
 use borrow.Author.Needs.{needs}
 use Rattle.session.proofs.turns.receive_turn.Statement.{statement}
 use Rattle.session.proofs.turns.receive_turn.Tie as tie
-use Rattle.session.proofs.turns.receive_turn.Reads as reads
-use Rattle.session.proofs.turns.receive_turn.Lts as lts
-use Rattle.session.proofs.rows.find_arm.Reads as find-arm-reads
-use Rattle.session.proofs.rows.head.Reads as head-reads
-use Rattle.session.proofs.state.wide.Reads as state-wide-reads
-use Rattle.words.proofs.wide.Reads as wide-reads
 
--- src/turns.rt:53:16
 wide-requires : tie.Need-wide-requires
 wide-requires c κs = search needs
 
--- src/turns.rt:54:17
 returns : tie.Need-returns
 unfolding receiveTurn
 returns c = rw (c .before .before .match .keys1, ne-eqb _ _ (λ e. c .if1 .taken (c .before .wide .ensures .0 ∙ e)))
 
--- src/turns.rt:57:17
 returns-2 : tie.Need-returns-2
 unfolding receiveTurn
 returns-2 c = rw (c .before .before .before .match .keys1, eq-eqb _ _ (sym (c .before .before .wide .ensures .0) ∙ c .before .if1 .left), eq-eqb _ _ (c .if2 .taken))
 
--- src/turns.rt:59:74
 wide-requires-2 : tie.Need-wide-requires-2
 wide-requires-2 c κs = search needs
 
--- src/turns.rt:59:17
 find-arm-requires : tie.Need-find-arm-requires
 find-arm-requires c κs = search needs
 
--- src/turns.rt:61:35
 enum-told : tie.Need-enum-told
 enum-told c = search needs
 
--- src/turns.rt:62:27
 enum-known-found : tie.Need-enum-known-found
 enum-known-found c = search needs
 
--- src/turns.rt:62:45
 head-requires : tie.Need-head-requires
 head-requires c κs = search needs
 
--- src/turns.rt:47:1
 returns-3 : tie.Need-returns-3
 unfolding receiveTurn receiveFound
 returns-3 c =
@@ -63,7 +48,6 @@ returns-3 c =
       found-nothing o (sym (c .before .before .find-arm .ensures) ∙ c .enum-told .given .1),
     )
 
--- src/turns.rt:47:1
 returns-4 : tie.Need-returns-4
 unfolding receiveTurn receiveFound
 returns-4 c =
@@ -77,7 +61,6 @@ returns-4 c =
       c .head .ensures,
     )
 
--- src/turns.rt:47:1
 returns-5 : tie.Need-returns-5
 returns-5 c = no-receive base _ _ _ _ _ _ _ _ _ _ (c .match .rest .1)
 

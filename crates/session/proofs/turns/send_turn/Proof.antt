@@ -1,46 +1,33 @@
+-- `turns::send_turn` meets its contract. Assumes nothing.
 use Rattle.session.specs.Head.{find}
 use Rattle.session.specs.mirror.Rows.{chainAt}
--- `turns::send_turn` meets its contract. Assumes nothing.
-use mathlib.Core.Path.{_≡_, sym, _∙_}
+use mathlib.Core.Path.{sym, _∙_}
 use borrow.Author.Tests.{eq-eqb, ne-eqb, le-leb, lt-leb}
 use Rattle.session.specs.mirror.Turns.{sendTurn, sendFound}
 use Rattle.session.proofs.Turning.{found-nothing, found-at, no-send}
 use borrow.Author.Needs.{needs}
 use Rattle.session.proofs.turns.send_turn.Statement.{statement}
 use Rattle.session.proofs.turns.send_turn.Tie as tie
-use Rattle.session.proofs.turns.send_turn.Reads as reads
-use Rattle.session.proofs.turns.send_turn.Lts as lts
-use Rattle.session.proofs.rows.find_arm.Reads as find-arm-reads
-use Rattle.session.proofs.rows.head.Reads as head-reads
-use Rattle.session.proofs.state.wide.Reads as state-wide-reads
-use Rattle.words.proofs.wide.Reads as wide-reads
 
--- src/turns.rt:28:16
 wide-requires : tie.Need-wide-requires
 wide-requires c κs = search needs
 
--- src/turns.rt:29:17
 returns : tie.Need-returns
 unfolding sendTurn
 returns c = rw (c .before .before .match .keys1, ne-eqb _ _ (λ e. c .if1 .taken (c .before .wide .ensures .0 ∙ e)))
 
--- src/turns.rt:31:17
 find-arm-requires : tie.Need-find-arm-requires
 find-arm-requires c κs = search needs
 
--- src/turns.rt:33:35
 enum-told : tie.Need-enum-told
 enum-told c = search needs
 
--- src/turns.rt:34:27
 enum-known-found : tie.Need-enum-known-found
 enum-known-found c = search needs
 
--- src/turns.rt:35:42
 wide-requires-2 : tie.Need-wide-requires-2
 wide-requires-2 c κs = search needs
 
--- src/turns.rt:36:25
 returns-2 : tie.Need-returns-2
 unfolding sendTurn sendFound
 returns-2 c =
@@ -53,11 +40,9 @@ returns-2 c =
       le-leb _ _ (c .if2 .taken),
     )
 
--- src/turns.rt:38:30
 head-requires : tie.Need-head-requires
 head-requires c κs = search needs
 
--- src/turns.rt:22:1
 returns-3 : tie.Need-returns-3
 unfolding sendTurn sendFound
 returns-3 c =
@@ -68,7 +53,6 @@ returns-3 c =
       found-nothing o (sym (c .before .before .find-arm .ensures) ∙ c .enum-told .given .1),
     )
 
--- src/turns.rt:22:1
 returns-4 : tie.Need-returns-4
 unfolding sendTurn sendFound
 returns-4 c =
@@ -82,7 +66,6 @@ returns-4 c =
       c .head .ensures,
     )
 
--- src/turns.rt:22:1
 returns-5 : tie.Need-returns-5
 returns-5 c = no-send _ _ _ _ _ _ _ _ _ _ _ (c .match .rest .1)
 

@@ -1,0 +1,89 @@
+//! Tables of a shape, by rows and roles, for measuring.
+
+use second::plans::{rows, Plan};
+
+/// The shapes.
+#[derive(Clone, Copy, Debug, PartialEq, Eq)]
+pub enum Shape {
+    /// A Loop around one exchange after the other, each between a role and the next one.
+    Line,
+    /// A Loop around a choice of many arms, in each of which the bystanders are told.
+    Wide,
+    /// Loops inside each other, an exchange in each, and at the bottom a Back to the outermost.
+    Loops,
+}
+
+pub const ALL: [Shape; 3] = [Shape::Line, Shape::Wide, Shape::Loops];
+
+/// The row counts and role counts that are measured. Each shape has a table of exactly so many rows.
+pub const ROWS: [usize; 3] = [16, 64, 256];
+pub const ROLES: [usize; 2] = [2, 8];
+
+/// Labels are 0 to 63, so a choice has at most so many arms.
+const MOST_ARMS: usize = 64;
+
+impl Shape {
+    pub fn name(self) -> &'static str {
+        match self {
+            Shape::Line => "line",
+            Shape::Wide => "wide",
+            Shape::Loops => "loops",
+        }
+    }
+
+    /// The global table.
+    pub fn table(self, row_count: usize, roles: usize) -> Vec<u16> {
+        let plan = match self {
+            Shape::Line => line(row_count, roles),
+            Shape::Wide => wide(row_count, roles),
+            Shape::Loops => loops(row_count, roles),
+        };
+        rows(&plan, None)
+    }
+}
+
+/// A Loop and a Back beside two rows for each exchange.
+fn line(row_count: usize, roles: usize) -> Plan {
+    let exchanges = (row_count - 2) / 2;
+    let around = (0..exchanges).rev().fold(Plan::Back(0), |then, at| {
+        let (sender, receiver) = neighbours(at, roles);
+        exchange(sender, receiver, at % 64, then)
+    });
+    Plan::Loop(Box::new(around))
+}
+
+/// A Loop and the choice beside, for each arm, its row, its Back and two rows for each bystander that is told. The
+/// rows that are left over are exchanges of the two that know, in the last arm.
+fn wide(row_count: usize, roles: usize) -> Plan {
+    // In pairs of rows: an arm with its Back is one, an exchange is one.
+    let pairs = (row_count - 2) / 2;
+    // At least three arms, if need be with fewer bystanders told; the others are in no arm.
+    let told = (roles - 2).min(pairs / 3 - 1);
+    let count = (pairs / (1 + told)).min(MOST_ARMS);
+    let left_over = pairs - count * (1 + told);
+    let arms = (0..count).map(|at| {
+        let more = if at == count - 1 { left_over } else { 0 };
+        let talk = (0..more).fold(Plan::Back(0), |then, _| exchange(0, 1, 0, then));
+        let then = (2..2 + told).rev().fold(talk, |then, bystander| exchange(1, bystander, at, then));
+        (at as u16, then)
+    });
+    Plan::Loop(Box::new(Plan::Exchange(0, 1, arms.collect())))
+}
+
+/// Three rows for each Loop with its exchange, and the Back.
+fn loops(row_count: usize, roles: usize) -> Plan {
+    let depth = (row_count - 1) / 3;
+    let outermost = Plan::Back((depth - 1) as u16);
+    (0..depth).rev().fold(outermost, |body, at| {
+        let (sender, receiver) = neighbours(at, roles);
+        Plan::Loop(Box::new(exchange(sender, receiver, at % 64, body)))
+    })
+}
+
+fn neighbours(at: usize, roles: usize) -> (usize, usize) {
+    (at % roles, (at + 1) % roles)
+}
+
+fn exchange(sender: usize, receiver: usize, label: usize, then: Plan) -> Plan {
+    Plan::Exchange(sender as u16, receiver as u16, vec![(label as u16, then)])
+}
