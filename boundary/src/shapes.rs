@@ -16,7 +16,7 @@ pub enum Shape {
 pub const ALL: [Shape; 3] = [Shape::Line, Shape::Wide, Shape::Loops];
 
 /// The row counts and role counts that are measured. Each shape has a table of exactly so many rows.
-pub const ROWS: [usize; 3] = [16, 64, 256];
+pub const ROWS: [usize; 4] = [16, 64, 128, 256];
 pub const ROLES: [usize; 2] = [2, 8];
 
 /// Labels are 0 to 63, so a choice has at most so many arms.

@@ -15,13 +15,14 @@ fn quoted(line: &str) -> Vec<&str> {
     line.split('`').skip(1).step_by(2).collect()
 }
 
-/// The file of specs/ or proofs/ that `crate/File` names.
-fn module_file(crate_name: &str, module: &str) -> Option<PathBuf> {
+/// The files of specs/ and proofs/ that `crate/File` names: a statement and its proof may share a name.
+fn module_files(crate_name: &str, module: &str) -> Vec<PathBuf> {
     let root = repository().join("crates").join(crate_name);
     ["specs", "proofs"]
         .iter()
         .map(|part| root.join(part).join(format!("{module}.antt")))
-        .find(|file| file.is_file())
+        .filter(|file| file.is_file())
+        .collect()
 }
 
 /// Whether a file declares a name: it stands before a colon, behind the words that mark a declaration.
@@ -34,22 +35,22 @@ fn declares(file: &Path, name: &str) -> bool {
     })
 }
 
-/// The file that a cited text names, with the name in it.
-fn cited<'a>(text: &'a str, last: &Option<PathBuf>) -> Option<(PathBuf, &'a str)> {
+/// The files that a cited text may mean, with the name in them.
+fn cited<'a>(text: &'a str, last: &[PathBuf]) -> Option<(Vec<PathBuf>, &'a str)> {
     match text.split_once('/') {
         Some((crate_name, rest)) => {
             let (module, name) = rest.rsplit_once('.')?;
-            Some((module_file(crate_name, module)?, name))
+            Some((module_files(crate_name, module), name))
         }
-        None => Some((last.clone()?, text)),
+        None => Some((last.to_vec(), text)),
     }
 }
 
 /// Whether a text is meant as a citation: `crate/..` of a crate that is there, or a bare name behind one.
-fn is_citation(text: &str, last: &Option<PathBuf>) -> bool {
+fn is_citation(text: &str, last: &[PathBuf]) -> bool {
     match text.split_once('/') {
         Some((crate_name, rest)) => repository().join("crates").join(crate_name).is_dir() && !rest.starts_with("must-fail/"),
-        None => last.is_some() && !text.contains(' ') && !text.contains('='),
+        None => !last.is_empty() && !text.contains(' ') && !text.contains('='),
     }
 }
 
@@ -70,16 +71,16 @@ fn check_document(name: &str) -> usize {
     };
     let mut found = 0;
     for (number, line) in text.lines().enumerate().filter(|(_, line)| line.starts_with('|')) {
-        let mut last = None;
+        let mut last = Vec::new();
         for text in quoted(line) {
             let place = format!("docs/{name}:{}: `{text}`", number + 1);
             if is_edit(text) {
                 assert!(edit_file(text).is_file(), "{place} is no must-fail edit");
                 found += 1;
             } else if is_citation(text, &last) {
-                let (file, cited_name) = cited(text, &last).unwrap_or_else(|| panic!("{place} names no file"));
-                assert!(declares(&file, cited_name), "{place} is not declared in {}", file.display());
-                last = Some(file);
+                let (files, cited_name) = cited(text, &last).unwrap_or_else(|| panic!("{place} names no file"));
+                assert!(files.iter().any(|file| declares(file, cited_name)), "{place} is not declared");
+                last = files;
                 found += 1;
             }
         }
