@@ -1,6 +1,6 @@
 -- The steps of the projection, one lemma for each way that a call returns. Assumes nothing.
 use Prim.Native.Nat.{ℕ, zero, suc, _+_, _*_, _<_, _≤_}
-use mathlib.Core.Bool.{Bool, true, false, _&&_, _||_}
+use mathlib.Core.Bool.{Bool, true, false, _&&_, _||_, and-true}
 use mathlib.Core.List.{List, [], _∷_, _++_, append-assoc}
 use mathlib.Core.Option.{Option, none, some, bind}
 use mathlib.Core.Path.{_≡_, refl, sym, _∙_, ap, subst}
@@ -261,6 +261,45 @@ own-arm {r} {l} {G} {cs} {work₂ = work₂} {rest = rest} {all = all} push₁ p
     (join .arms s (p-arm l P p-nil) (rising qs) (rest .at) (r-arm no-label (holds-some (part-rising r g) e) r-nil) (rising-is (sorted .distinct) (sorted .each))
     (k .height) (k₄ .height) k₅ (space-within sp len₄ spare₂ (omega arith) (omega arith)))))
 
+small-label : {l : ℕ} {G : Global ℕ} {ds : Arms ℕ} → SmallArms (arm l G ds) → l < SMALL
+small-label (s-arm x m ms) = x
+
+-- an arm with none behind it: its list is in order as it stands
+own-one : {r l : ℕ} {G : Global ℕ} {work₀ work₁ work₂ work₃ spare₀ : List ℕ} {at e b : ℕ} {one : Projected}
+    → Pushed work₀ at (code 2 l) work₁ e → Projects r G work₁ e spare₀ work₂ one → Pushed work₂ (one .at) (code 1 0) work₃ b
+    → length work₁ ≡ length work₀ → length work₂ ≡ length work₀
+    → (s : List ℕ) → GoodArms (arm l G nil) → SmallArms (arm l G nil) → Stack work₀ at s → Space (suc (rowsInArms (arm l G nil) * 2)) at work₀ spare₀
+    → Outcome (λ ps. codesArms (rising ps)) s work₃ (also (one .ok) (record { ok = true; at = b })) (partArms r (arm l G nil))
+unfolding partArms rowsInArms sizeArms rising
+own-one {r} {l} {G} {work₂ = work₂} {b = b} push₁ project push₂ len₁ len₂ s (g-arm d g gs) (s-arm x m ms) k sp =
+    let k₁ = push₁ .gives s k (omega (arith, sp .fits)) in
+    let n₁ = length-append s (code 2 l ∷ []) in
+    outcome-then (λ P. bind (partArms {A = ℕ} r nil) (λ ps. some (p-arm l P ps))) (record { ok = true; at = b })
+    (project .gives (s ++ code 2 l ∷ []) g m k₁ (space-within sp len₁ refl (omega (arith, k .height, k₁ .height)) (omega arith)))
+    (λ P e k₂.
+    let z = holds-some (part-size r G) e in
+    let n₂ = length-append (s ++ code 2 l ∷ []) (codes P) in
+    let n₃ = words-twice P in
+    let l₂ : _ < length work₂ = omega (arith, k .height, k₂ .height, sp .fits) in
+    let k₃ = push₂ .gives (s ++ code 2 l ∷ [] ++ codes P) k₂ l₂ in
+    puts {x = p-arm l P p-nil} refl (restack (one-arm l P s) k₃))
+
+pub own-last : {r : ℕ} {t : List ℕ} {cs : Arms ℕ} {work₀ work₁ work₂ work₃ spare₀ : List ℕ} {at e b : ℕ} (c : Arm) {one : Projected}
+    → c .there ≡ true → c .rest ≡ 0 → ArmIs (c .there) t cs c
+    → Pushed work₀ at (c .word) work₁ e → Projects r (treeAt (c .left) t (c .cont)) work₁ e spare₀ work₂ one → Pushed work₂ (one .at) (code 1 0) work₃ b
+    → length work₁ ≡ length work₀ → length work₂ ≡ length work₀
+    → Owns r cs work₀ at spare₀ work₃ (record { ok = one .ok; at = b })
+unfolding chainAt
+own-last {r} {t} {cs} {work₀} {work₁} {work₃ = work₃} {spare₀ = spare₀} {at = at} {e = e} {b = b} c {one} there ends is push₁ project push₂ len₁ len₂ =
+    let (l, f, w) = subst (λ (z : Bool). ArmIs z t cs c) there is .says in
+    let f′ : cs ≡ arm l (treeAt (c .left) t (c .cont)) nil = f ∙ ap (λ (n : ℕ). arm l (treeAt (c .left) t (c .cont)) (chainAt n t (c .next))) ends in
+    record {
+      gives = λ s. subst (λ (X : Arms ℕ). GoodArms X → SmallArms X → Stack work₀ at s → Space (suc (rowsInArms X * 2)) at work₀ spare₀
+          → Outcome (λ ps. codesArms (rising ps)) s work₃ (record { ok = one .ok; at = b }) (partArms r X)) (sym f′)
+          (λ g m k sp. subst (λ (o : Bool). Outcome (λ ps. codesArms (rising ps)) s work₃ (record { ok = o; at = b }) (partArms {A = ℕ} r (arm l (treeAt (c .left) t (c .cont)) nil)))
+          (and-true (one .ok)) (own-one (subst (λ (x : ℕ). Pushed work₀ at x work₁ e) (w (small-label m)) push₁) project push₂ len₁ len₂ s g m k sp));
+    }
+
 pub own-step : {r : ℕ} {t : List ℕ} {cs : Arms ℕ} {work₀ work₁ work₂ work₃ work₄ work₅ spare₀ spare₁ spare₂ : List ℕ} {at e b : ℕ} (c : Arm) {one rest : Projected} {all : Joined}
     → c .there ≡ true → ArmIs (c .there) t cs c
     → Pushed work₀ at (c .word) work₁ e → Projects r (treeAt (c .left) t (c .cont)) work₁ e spare₀ work₂ one → Pushed work₂ (one .at) (code 1 0) work₃ b
@@ -275,9 +314,6 @@ own-step {r} {t} {cs} {work₀} {work₁} {work₅ = work₅} {spare₀ = spare�
           → Outcome (λ ps. codesArms (rising ps)) s work₅ (also (one .ok) (also (rest .ok) (answer all))) (partArms r X)) (sym f)
           (λ g m. own-arm (subst (λ (x : ℕ). Pushed work₀ at x work₁ e) (w (small-label m)) push₁) project push₂ own join len₁ len₂ len₃ len₄ spare₁ spare₂ s g m);
     }
-  where
-    small-label : {l : ℕ} {G : Global ℕ} {ds : Arms ℕ} → SmallArms (arm l G ds) → l < SMALL
-    small-label (s-arm x m ms) = x
 
 -- ---- the parts of the arms of others, merged
 

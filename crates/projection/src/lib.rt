@@ -269,6 +269,14 @@ fn own(
     let cont = push(work, at, arm.word);
     let part = project(table, arm.cont, role, work, cont, spare, arm.left);
     let behind = push(work, part.at, MARK);
+    let more = arm.rest;
+    if more == 0 {
+        // The list of one arm is in order as it stands.
+        return Projected {
+            ok: part.ok,
+            at: behind,
+        };
+    }
     let rest = own(table, arm.next, role, work, behind, spare, arm.rest);
     let all = merge::join(work, spare, at, behind, FAR);
     Projected {

@@ -5,7 +5,7 @@ use native.Mathlib.Omega.{arith}
 use borrow.Author.Needs.{needs}
 use borrow.Author.Tests.{not-true, not-false}
 use Rattle.projection.proofs.Join.{joins-is}
-use Rattle.projection.proofs.Steps.{planned, more-than-two, leaf-step, loop-step, action-step, none-step, others-step, own-end, own-step, fold-end, fold-step}
+use Rattle.projection.proofs.Steps.{planned, more-than-two, leaf-step, loop-step, action-step, none-step, others-step, own-end, own-last, own-step, fold-end, fold-step}
 use Prim.Native.Nat.{ℕ, _<_}
 use borrow.Fn.Kinds.{In}
 use borrow.Fn.PlainCycle.{Measures, is, falls, and}
@@ -143,32 +143,53 @@ own-project-requires t c κs =
 own-push-requires-3 : (t : ℕ) → own-lts.Need-push-requires-3 (own-calls t) (own-at t) own.Post
 own-push-requires-3 t c κs = search needs
 
-own-own-requires : (t : ℕ) → own-lts.Need-own-requires (own-calls t) (own-at t) own.Post
-own-own-requires t c κs =
-    let branch = c .before .before .before .before .before .before .before .before .before .before .before .before .before .before .before .before .before in
-    let arm = branch .before .before in
-    (omega (arith, arm .arm-at .ensures .1 (not-false _ (branch .if1 .left)) .1, arm .before .before .before .before .pre .0), tt)
-
-own-join-requires : (t : ℕ) → own-lts.Need-join-requires (own-calls t) (own-at t) own.Post
-own-join-requires t c κs = search needs
-
 own-same-length-2 : (t : ℕ) → own-lts.Need-same-length-2 (own-calls t) (own-at t) own.Post
 own-same-length-2 t c =
-    let all = c .before .before .before .before .before .before .before in
-    let rest = all .before .before .before .before .before .before .before in
-    let mark = rest .before .before .before .before .before in
+    let mark = c .before .before .before in
     let part = mark .before .before .before .before .before .before in
     let word = part .before .before .before .before .before in
-    all .join .kept .0 ∙ rest .own .kept .1 .1 .1 .0 ∙ mark .push3 .kept .0 ∙ part .project .kept .1 .1 .1 .0 ∙ word .push2 .kept .0
+    mark .push3 .kept .0 ∙ part .project .kept .1 .1 .1 .0 ∙ word .push2 .kept .0
 
 own-same-length-3 : (t : ℕ) → own-lts.Need-same-length-3 (own-calls t) (own-at t) own.Post
 own-same-length-3 t c = search needs
 
 own-returns-2 : (t : ℕ) → own-lts.Need-returns-2 (own-calls t) (own-at t) own.Post
 own-returns-2 t c =
+    let mark = c .before .before .before in
+    let part = mark .before .before .before .before .before .before in
+    let word = part .before .before .before .before .before in
+    let branch = word .before .before in
+    let arm = branch .before .before in
+    let work₁ = word .push2 .kept .0 in
+    own-last _ (not-false _ (branch .if1 .left)) (c .if2 .taken) (arm .arm-at .ensures .0) (word .push2 .ensures) (part .project .ensures) (mark .push3 .ensures)
+    work₁ (part .project .kept .1 .1 .1 .0 ∙ work₁)
+
+own-own-requires : (t : ℕ) → own-lts.Need-own-requires (own-calls t) (own-at t) own.Post
+own-own-requires t c κs =
+    let branch = c .before .before .before .before .before .before .before .before .before .before .before .before .before .before .before .before .before .before in
+    let arm = branch .before .before in
+    (omega (arith, arm .arm-at .ensures .1 (not-false _ (branch .if1 .left)) .1, arm .before .before .before .before .pre .0), tt)
+
+own-join-requires : (t : ℕ) → own-lts.Need-join-requires (own-calls t) (own-at t) own.Post
+own-join-requires t c κs = search needs
+
+own-same-length-4 : (t : ℕ) → own-lts.Need-same-length-4 (own-calls t) (own-at t) own.Post
+own-same-length-4 t c =
     let all = c .before .before .before .before .before .before .before in
     let rest = all .before .before .before .before .before .before .before in
-    let mark = rest .before .before .before .before .before in
+    let mark = rest .before .before .before .before .before .before in
+    let part = mark .before .before .before .before .before .before in
+    let word = part .before .before .before .before .before in
+    all .join .kept .0 ∙ rest .own .kept .1 .1 .1 .0 ∙ mark .push3 .kept .0 ∙ part .project .kept .1 .1 .1 .0 ∙ word .push2 .kept .0
+
+own-same-length-5 : (t : ℕ) → own-lts.Need-same-length-5 (own-calls t) (own-at t) own.Post
+own-same-length-5 t c = search needs
+
+own-returns-3 : (t : ℕ) → own-lts.Need-returns-3 (own-calls t) (own-at t) own.Post
+own-returns-3 t c =
+    let all = c .before .before .before .before .before .before .before in
+    let rest = all .before .before .before .before .before .before .before in
+    let mark = rest .before .before .before .before .before .before in
     let part = mark .before .before .before .before .before .before in
     let word = part .before .before .before .before .before in
     let branch = word .before .before in
@@ -326,11 +347,14 @@ pub +fold+own+project-spec : {M : Type 1} → statement M
     (own-push-requires-2 t)
     (own-project-requires t)
     (own-push-requires-3 t)
-    (own-own-requires t)
-    (own-join-requires t)
     (own-same-length-2 t)
     (own-same-length-3 t)
-    (own-returns-2 t))
+    (own-returns-2 t)
+    (own-own-requires t)
+    (own-join-requires t)
+    (own-same-length-4 t)
+    (own-same-length-5 t)
+    (own-returns-3 t))
     λ t. project-lts.spec (project-calls t)
     (project-at t)
     project.Post
