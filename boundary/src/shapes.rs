@@ -70,14 +70,15 @@ fn wide(row_count: usize, roles: usize) -> Plan {
     Plan::Loop(Box::new(Plan::Exchange(0, 1, arms.collect())))
 }
 
-/// Three rows for each Loop with its exchange, and the Back.
+/// Three rows for each Loop with its exchange, and the Back. The rows that are left over are Loops around it all.
 fn loops(row_count: usize, roles: usize) -> Plan {
-    let depth = (row_count - 1) / 3;
-    let outermost = Plan::Back((depth - 1) as u16);
-    (0..depth).rev().fold(outermost, |body, at| {
+    let (depth, left_over) = ((row_count - 1) / 3, (row_count - 1) % 3);
+    let outermost = Plan::Back((depth + left_over - 1) as u16);
+    let inner = (0..depth).rev().fold(outermost, |body, at| {
         let (sender, receiver) = neighbours(at, roles);
         Plan::Loop(Box::new(exchange(sender, receiver, at % 64, body)))
-    })
+    });
+    (0..left_over).fold(inner, |body, _| Plan::Loop(Box::new(body)))
 }
 
 fn neighbours(at: usize, roles: usize) -> (usize, usize) {

@@ -1,28 +1,28 @@
 -- What a call over lent slices hands over, where their lengths are a state's and where they are not. Assumes nothing.
 use Prim.Native.Nat.{ℕ}
-use mathlib.Core.Bool.{Bool, true, false, cond, _&&_, not, true≢false}
+use mathlib.Core.Bool.{Bool, true, false, cond, _&&_, not}
 use mathlib.Core.List.{List}
 use mathlib.Core.Path.{_≡_, refl, sym, _∙_, ap}
 use native.Mathlib.Omega.{arith}
 use lib.Dec.{eqb}
 use lib.ListN.{length}
-use borrow.Author.Tests.{eqb-true}
+use borrow.Author.Tests.{eqb-true, eq-eqb}
 use Rattle.table.specs.Limits.{base}
-use Rattle.session.specs.Numbers.{TABLES, STATE}
-use Rattle.session.specs.Tables.{tablesGood}
-use Rattle.session.specs.Calls.{freshOf}
+use Rattle.table.proofs.Tests.{both}
+use Rattle.blocks.specs.Tables.{tablesGood}
+use Rattle.state.specs.Numbers.{TABLES, STATE}
+use Rattle.session.specs.Calls.{answers, freshOf}
+use Rattle.session.specs.State.{nothing}
 use Rattle.session.specs.Awaited.{awaitedOf}
 use Rattle.session.specs.declared.Session.{Session}
 use Rattle.session.specs.declared.Answer.{Answer}
 use Rattle.session.specs.declared.Awaiting.{Awaiting}
-use Rattle.embed.specs.Lent.{isState, lent, wrongNumber, lentCall, awaitedLent, Handed, Told}
-
-both : (a b : Bool) → (a && b) ≡ true → (a ≡ true) × (b ≡ true)
-both true b e = (refl, e)
-both false b e = absurd (true≢false (sym e))
+use Rattle.lent.specs.Slices.{isState, lent, over, givenOf}
+use Rattle.lent.specs.declared.Given.{Given}
+use Rattle.embed.specs.Lent.{wrongNumber, lentCall, givenCall, awaitedLent, Handed, Told}
 
 -- the lengths of a state
-pub state-lengths : (h c l p : List ℕ) → isState base h c l p ≡ true
+state-lengths : (h c l p : List ℕ) → isState base h c l p ≡ true
     → (length h ≡ 8) × (length c ≡ 64) × (length l ≡ 256) × (length p ≡ 256)
 state-lengths h c l p e =
     let (hcl, d) = both (eqb (length h) 8 && eqb (length c) 64 && eqb (length l) 256) (eqb (length p) 256) e in
@@ -49,25 +49,76 @@ wrong-tables ts roles a e z = by-fresh (tablesGood base ts roles) (a .number) (a
 pub wrong-state : (ts : List ℕ) (roles : ℕ) (a : Answer) → a ≡ freshOf base ts roles → (a .number ≡ TABLES → ⊥) → STATE ≡ wrongNumber base ts roles
 wrong-state ts roles a e h = by-fresh (tablesGood base ts roles) (a .number) (ap (λ (x : Answer). x .number) e ∙ fresh-number ts roles) .1 h
 
+-- words that were taken in and put back unchanged
+kept-by : (n : ℕ) (zeros words : List ℕ) → length zeros ≡ n → (b : Bool) → eqb (length words) n ≡ b → over n (over (length words) words zeros) words ≡ words
+kept-by n zeros words e true q =
+    let m : length words ≡ n = eqb-true (length words) n q in
+    rw (q, eq-eqb (length zeros) (length words) (e ∙ sym m))
+kept-by n zeros words e false q = rw q
+
+kept : (n : ℕ) (zeros words : List ℕ) → length zeros ≡ n → over n (over (length words) words zeros) words ≡ words
+kept n zeros words e = kept-by n zeros words e (eqb (length words) n) refl
+
 module _ (ts : List ℕ) (roles : ℕ) (h c l p : List ℕ) where
-  module _ (call : Session → Answer) where
-    -- slices that are a state: the call's answer
-    pub call-made : isState base h c l p ≡ true → (s : Session) → s ≡ lent h c l p → (a : Answer) → a ≡ call s → a ≡ lentCall base ts roles call h c l p
-    call-made e s f a g = rw (e, g, f)
+  -- slices of a state's lengths are taken in as they are
+  taken-whole : isState base h c l p ≡ true → givenOf base h c l p ≡ record { whole = true; state = lent h c l p }
+  taken-whole e =
+      let (eh, ec, el, ep) = state-lengths h c l p e in
+      rw (eh, ec, el, ep)
 
-    -- other slices stay as they are
-    pub not-made : isState base h c l p ≡ false → (n : ℕ) → n ≡ wrongNumber base ts roles
-        → record { number = n; label = 0; payload = 0; state = lent h c l p } ≡ lentCall base ts roles call h c l p
-    not-made e n f = rw (e, f)
+  module _ (call : Session → Answer) (g : Given) (eg : g ≡ givenOf base h c l p) (a : Answer) (ea : a ≡ givenCall base ts roles call g) where
+    made-whole : isState base h c l p ≡ true → a ≡ call (lent h c l p)
+    made-whole e = ea ∙ ap (givenCall base ts roles call) (eg ∙ taken-whole e)
 
-  pub awaited-made : isState base h c l p ≡ true → (s : Session) → s ≡ lent h c l p → (a : Awaiting)
-      → a ≡ awaitedOf base ts roles s → a ≡ awaitedLent base ts roles h c l p
-  awaited-made e s f a g = rw (e, g, f)
+    made-none : isState base h c l p ≡ false → a ≡ answers (wrongNumber base ts roles) (givenOf base h c l p .state)
+    made-none e = ea ∙ (ap (givenCall base ts roles call) eg ∙ rw e)
 
-  pub nobody-told : isState base h c l p ≡ false → (n : ℕ) → n ≡ wrongNumber base ts roles → Told (awaitedLent base ts roles h c l p) n 0 0 8
-  nobody-told e n f = rw e (record { number-is = f; set-is = refl; count-is = refl; lowest-is = refl })
+    said-by : (b : Bool) → isState base h c l p ≡ b → let w = lentCall base ts roles call h c l p in
+        (a .number ≡ w .number) × (a .label ≡ w .label) × (a .payload ≡ w .payload)
+    said-by true e = rw (e, made-whole e) (refl, refl, refl)
+    said-by false e = rw (e, made-none e) (refl, refl, refl)
 
--- an answer whose state the slices now hold
-pub handed : (a b : Answer) → a ≡ b → (h c l p : List ℕ) → h ≡ a .state .heads → c ≡ a .state .counts → l ≡ a .state .labels → p ≡ a .state .payloads
-    → Handed b (a .number) h c l p
-handed a b e h c l p eh ec el ep = rw (← e) (record { number-is = refl; heads-are = eh; counts-are = ec; labels-are = el; payloads-are = ep })
+    -- the answer's number, label and payload
+    pub said : let w = lentCall base ts roles call h c l p in (a .number ≡ w .number) × (a .label ≡ w .label) × (a .payload ≡ w .payload)
+    said = said-by (isState base h c l p) refl
+
+    module _ (h' c' l' p' : List ℕ) (eh : h' ≡ over 8 (a .state .heads) h) (ec : c' ≡ over 64 (a .state .counts) c)
+        (el : l' ≡ over 256 (a .state .labels) l) (ep : p' ≡ over 256 (a .state .payloads) p) where
+      handed-by : (b : Bool) → isState base h c l p ≡ b → Handed (lentCall base ts roles call h c l p) (a .number) h' c' l' p'
+      handed-by true e =
+          let (kh, kc, kl, kp) = state-lengths h c l p e in
+          let m = made-whole e in
+          rw e (record {
+            number-is = ap (λ (x : Answer). x .number) m;
+            heads-are = eh ∙ (rw kh (ap (λ (x : Answer). x .state .heads) m));
+            counts-are = ec ∙ (rw kc (ap (λ (x : Answer). x .state .counts) m));
+            labels-are = el ∙ (rw kl (ap (λ (x : Answer). x .state .labels) m));
+            payloads-are = ep ∙ (rw kp (ap (λ (x : Answer). x .state .payloads) m));
+          })
+      handed-by false e =
+          let m = made-none e in
+          let z = nothing base in
+          rw e (record {
+            number-is = ap (λ (x : Answer). x .number) m;
+            heads-are = eh ∙ (ap (λ (x : Answer). over 8 (x .state .heads) h) m ∙ kept 8 (z .heads) h refl);
+            counts-are = ec ∙ (ap (λ (x : Answer). over 64 (x .state .counts) c) m ∙ kept 64 (z .counts) c refl);
+            labels-are = el ∙ (ap (λ (x : Answer). over 256 (x .state .labels) l) m ∙ kept 256 (z .labels) l refl);
+            payloads-are = ep ∙ (ap (λ (x : Answer). over 256 (x .state .payloads) p) m ∙ kept 256 (z .payloads) p refl);
+          })
+
+      -- the answer's state is what the slices hold now
+      pub handed : Handed (lentCall base ts roles call h c l p) (a .number) h' c' l' p'
+      handed = handed-by (isState base h c l p) refl
+
+  -- the awaited answer of a state
+  pub awaited-made : (g : Given) → g ≡ givenOf base h c l p → g .whole ≡ true → (a : Awaiting)
+      → a ≡ awaitedOf base ts roles (g .state) → a ≡ awaitedLent base ts roles h c l p
+  awaited-made g eg w a ea =
+      let e : isState base h c l p ≡ true = sym (ap (λ (x : Given). x .whole) eg) ∙ w in
+      rw e (ea ∙ ap (λ (x : Given). awaitedOf base ts roles (x .state)) (eg ∙ taken-whole e))
+
+  pub nobody-told : (g : Given) → g ≡ givenOf base h c l p → g .whole ≡ false → (n : ℕ) → n ≡ wrongNumber base ts roles
+      → Told (awaitedLent base ts roles h c l p) n 0 0 8
+  nobody-told g eg w n f =
+      let e : isState base h c l p ≡ false = sym (ap (λ (x : Given). x .whole) eg) ∙ w in
+      rw e (record { number-is = f; set-is = refl; count-is = refl; lowest-is = refl })

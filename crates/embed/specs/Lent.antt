@@ -1,27 +1,18 @@
 -- The calls over a state that the caller lends as four slices of any lengths. Assumes nothing.
-use Prim.Native.Nat.{ℕ, _*_}
-use mathlib.Core.Bool.{Bool, cond, _&&_}
+use Prim.Native.Nat.{ℕ}
+use mathlib.Core.Bool.{cond}
 use mathlib.Core.List.{List}
 use mathlib.Core.Path.{_≡_}
-use lib.Dec.{eqb}
-use lib.ListN.{length}
 use Rattle.table.specs.Limits.{Limits}
-use Rattle.session.specs.Numbers.{TABLES, STATE}
-use Rattle.session.specs.Tables.{tablesGood}
-use Rattle.session.specs.Calls.{freshOf, sendOf, receiveOf}
+use Rattle.blocks.specs.Tables.{tablesGood}
+use Rattle.state.specs.Numbers.{TABLES, STATE}
+use Rattle.session.specs.Calls.{answers, freshOf, sendOf, receiveOf}
 use Rattle.session.specs.Awaited.{awaitedOf, nobodyAwaited}
 use Rattle.session.specs.declared.Session.{Session}
 use Rattle.session.specs.declared.Answer.{Answer}
 use Rattle.session.specs.declared.Awaiting.{Awaiting}
-
--- the four slices have the lengths of a state
-abbrev pub isState : Limits → List ℕ → List ℕ → List ℕ → List ℕ → Bool
-isState lim heads counts labels payloads =
-    eqb (length heads) (lim .roles) && eqb (length counts) (lim .roles * lim .roles)
-    && eqb (length labels) (lim .roles * lim .roles * lim .depth) && eqb (length payloads) (lim .roles * lim .roles * lim .depth)
-
-abbrev pub lent : List ℕ → List ℕ → List ℕ → List ℕ → Session
-lent heads counts labels payloads = record { heads = heads; counts = counts; labels = labels; payloads = payloads }
+use Rattle.lent.specs.Slices.{isState, lent}
+use Rattle.lent.specs.declared.Given.{Given}
 
 -- slices of other lengths are no well-formed state: 13, behind 12
 abbrev pub wrongNumber : Limits → List ℕ → ℕ → ℕ
@@ -33,6 +24,10 @@ lentCall lim ts roles call heads counts labels payloads =
     let s = lent heads counts labels payloads in
     cond (isState lim heads counts labels payloads) (call s)
     (record { number = wrongNumber lim ts roles; label = 0; payload = 0; state = s })
+
+-- the same over what was taken in, which a refused call hands back
+abbrev pub givenCall : Limits → List ℕ → ℕ → (Session → Answer) → Given → Answer
+givenCall lim ts roles call g = cond (g .whole) (call (g .state)) (answers (wrongNumber lim ts roles) (g .state))
 
 -- a fresh state in lent slices
 abbrev pub freshLent : Limits → List ℕ → ℕ → List ℕ → List ℕ → List ℕ → List ℕ → Answer

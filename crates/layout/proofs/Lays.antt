@@ -1,6 +1,6 @@
 -- The writing of rows, one code at a time: what the code does at each step is what its mirror says. Assumes nothing.
 use Prim.Native.Nat.{ℕ, zero, suc, _+_, _-_, _<_, _≤_, _/_, _%_}
-use mathlib.Core.Bool.{Bool, true, false, _&&_, not, true≢false}
+use mathlib.Core.Bool.{Bool, true, false, _&&_, not}
 use mathlib.Core.List.{List}
 use mathlib.Core.Path.{_≡_, refl, sym, _∙_}
 use native.Mathlib.Omega.{arith}
@@ -8,13 +8,11 @@ use native.Mathlib.Numerals.{sub-one}
 use lib.Dec.{ltb, leb}
 use lib.ListN.{getD, set}
 use borrow.Author.Tests.{lt-ltb, le-ltb, eq-eqb, ne-eqb, ltb-true, leb-true, not-true, not-false}
+use Rattle.words.proofs.Below.{and-both}
 use Rattle.words.specs.Rows.{putRow}
-use Rattle.layout.specs.mirror.Lay.{LIMIT, inside, Inside, stepAt, loopRow, nextRow, putArm, putLoop, putBack, putAction, Lay, bySeven, layBody, layS, clearS}
+use Rattle.parts.proofs.Seven.{seven-more}
+use Rattle.layout.specs.mirror.Lay.{LIMIT, inside, Inside, stepAt, loopRow, nextRow, putArm, putLoop, putBack, putAction, Lay, layBody, layS, clearS}
 use Rattle.layout.specs.declared.Laid.{Laid}
-
-and-both : (a b : Bool) → (a && b) ≡ true → (a ≡ true) × (b ≡ true)
-and-both true b e = (refl, e)
-and-both false b e = absurd (true≢false (sym e))
 
 inside-is : (n i from row depth : ℕ) → inside n i from row depth ≡ true → Inside n i from row depth
 inside-is n i from row depth e =
@@ -103,15 +101,6 @@ lay-eq : (n : ℕ) (s : List ℕ) (from i : ℕ) (out : List ℕ) (row : ℕ) (l
 unfolding layS stepAt
 lay-eq zero s from i out row loops depth = refl
 lay-eq (suc n) s from i out row loops depth = rw (sub-one (suc n))
-
-seven-more : {A : Type 0} (n : ℕ) (a b c d e f g : A) → 5 < n → bySeven n a b c d e f g ≡ g
-seven-more zero a b c d e f g h = absurd (omega arith)
-seven-more (suc zero) a b c d e f g h = absurd (omega arith)
-seven-more (suc (suc zero)) a b c d e f g h = absurd (omega arith)
-seven-more (suc (suc (suc zero))) a b c d e f g h = absurd (omega arith)
-seven-more (suc (suc (suc (suc zero)))) a b c d e f g h = absurd (omega arith)
-seven-more (suc (suc (suc (suc (suc zero))))) a b c d e f g h = absurd (omega arith)
-seven-more (suc (suc (suc (suc (suc (suc n)))))) a b c d e f g h = refl
 
 -- a call of `lay` whose step is k
 module _ (n : ℕ) (s : List ℕ) (from i : ℕ) (out : List ℕ) (row : ℕ) (loops : List ℕ) (depth k : ℕ) (ek : k ≡ stepAt n s i from row depth) where

@@ -1,19 +1,14 @@
--- Laws of a run of stores: two runs in a row, two runs apart, and a row of four words. Assumes nothing.
+-- Laws of a run of stores: two runs apart, and a row of four words. Assumes nothing.
 use Prim.Native.Nat.{ℕ, suc, _+_, _*_, _<_, _≤_}
 use mathlib.Core.List.{List, [], _∷_, _++_}
 use mathlib.Core.Path.{_≡_, refl, ap, _∙_}
 use native.Mathlib.Omega.{arith}
-use native.Mathlib.Nat.{add-zero}
 use lib.ListN.{length, set}
 use lib.Seq.{sets, length-sets, set-comm}
 use borrow.Author.Tests.{lt-ltb}
 use Rattle.words.specs.Rows.{putRow, rowsOf}
 use Rattle.parts.specs.Layout.{four}
-
--- a run that goes on where another ends
-pub sets-append : (l : List ℕ) (i j : ℕ) (vs ws : List ℕ) → j ≡ i + length vs → sets (sets l i vs) j ws ≡ sets l i (vs ++ ws)
-sets-append l i j [] ws e = rw (e, add-zero)
-sets-append l i j (v ∷ vs) ws e = sets-append (set l i v) (suc i) j vs ws (omega arith)
+use Rattle.parts.proofs.Words.{sets-append}
 
 set-sets : (ws l : List ℕ) (i j v : ℕ) → i < j → set (sets l j ws) i v ≡ sets (set l i v) j ws
 set-sets [] l i j v h = refl

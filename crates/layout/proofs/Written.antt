@@ -18,18 +18,10 @@ use Rattle.parts.specs.mirror.Stands.{Stands}
 use Rattle.layout.specs.mirror.Lay.{LIMIT, kindOf, argOf, inside, Inside, stepAt, loopRow, nextRow, Lay, layS, clearS, Ready}
 use Rattle.layout.specs.declared.Laid.{Laid}
 use Rattle.layout.proofs.Lays.{Ends, lay-at, next-arm, next-none}
-use Rattle.layout.proofs.Stores.{sets-append, row-is, length-row, row-then, row-last}
-use Rattle.parts.proofs.Lengths.{length-layout, size-pos, words-twice}
-
--- ---- words that stand in a list
-
-stands-front : (s : List ℕ) (a : ℕ) (u v : List ℕ) → Stands s a (u ++ v) → Stands s a u
-stands-front s a [] v h = tt
-stands-front s a (w ∷ u) v h = (h .0, stands-front s (suc a) u v (h .1))
-
-stands-back : (s : List ℕ) (a c : ℕ) (u v : List ℕ) → c ≡ a + length u → Stands s a (u ++ v) → Stands s c v
-stands-back s a c [] v e h = rw (e, add-zero) h
-stands-back s a c (w ∷ u) v e h = stands-back s (suc a) c u v (omega arith) (h .1)
+use Rattle.layout.proofs.Stores.{row-is, length-row, row-then, row-last}
+use Rattle.parts.proofs.Lengths.{length-layout, size-pos}
+use Rattle.parts.proofs.Sizes.{words-twice}
+use Rattle.parts.proofs.Words.{sets-append, stands-front, stands-back}
 
 -- ---- the rows of the Loops around, outermost first in the list that is lent, nearest first in the definition
 
@@ -224,10 +216,10 @@ clear-is out first (suc n) h =
     rw
     (clear-is out first n (omega arith), row-is (sets out (first * 4) zs) (first + n) 0 0 0 0 (omega (arith, length-sets out (first * 4) zs)), sets-append out (first * 4) ((first + n) * 4) zs (four 0 0 0 0) (omega (arith, length-replicate {A = ℕ} (n * 4) 0)), e, zeros-more (n * 4))
 
--- the rows of a part, then zeros
+-- the rows of a part, then zeros; and the place behind its codes
 pub block-is : (P : Part) (s : List ℕ) (i : ℕ) (out : List ℕ) (from rows : ℕ) (loops : List ℕ) → Ready P s i out from rows loops
     → (r : Laid) (o l o′ : List ℕ) → Ends r o l (layS LIMIT s from i out 0 loops 0) → o′ ≡ clearS o (from + r .row) (rows - r .row)
-    → o′ ≡ sets out (from * 4) (block (rows * 4) P)
+    → (o′ ≡ sets out (from * 4) (block (rows * 4) P)) × (r .code ≡ i + length (codes P))
 unfolding block
 block-is P s i out from rows loops w r o l o′ h e =
     let ws = layout 0 [] P in
@@ -238,7 +230,9 @@ block-is P s i out from rows loops w r o l o′ h e =
     let start : (from + 0) * 4 ≡ from * 4 = omega arith in
     let at : r .row ≡ size P = ap (λ (x : Laid). x .row) (h .0 ∙ m .ended) in
     let put : o ≡ sets out (from * 4) ws = h .1 ∙ rw start at (m .words) in
-    let zs : (rows - size P) * 4 ≡ rows * 4 - length ws = omega arith in
-    e
-    ∙ rw (at, put, clear-is (sets out (from * 4) ws) (from + size P) (rows - size P) (omega (arith, length-sets out (from * 4) ws)), zs)
-    (sets-append out (from * 4) ((from + size P) * 4) ws (replicate (rows * 4 - length ws) 0) (omega arith))
+    let zs : (rows - size P) * 4 ≡ rows * 4 - length ws = omega arith in (
+      e
+          ∙ rw (at, put, clear-is (sets out (from * 4) ws) (from + size P) (rows - size P) (omega (arith, length-sets out (from * 4) ws)), zs)
+          (sets-append out (from * 4) ((from + size P) * 4) ws (replicate (rows * 4 - length ws) 0) (omega arith)),
+      ap (λ (x : Laid). x .code) (h .0 ∙ m .ended),
+    )

@@ -1,10 +1,11 @@
 // The codes of a part written as rows of four words.
 ghost use mathlib.Core.Path.{_≡_};
 ghost use Prim.Native.Nat.{_+_, _-_, _*_, _<_, _≤_};
-ghost use lib.ListN.{set};
+ghost use lib.ListN.{length, set};
 ghost use lib.Seq.{sets};
 ghost use Rattle.parts.specs.Part.{Part};
 ghost use Rattle.parts.specs.Layout.{block};
+ghost use Rattle.parts.specs.mirror.Codes.{codes};
 ghost use Rattle.layout.specs.mirror.Lay.{LIMIT, inside, Inside, stepAt, loopRow, nextRow, putArm, putLoop, putBack, putAction, layS, clearS, Ready};
 
 // Where the codes and the rows of a part end.
@@ -189,8 +190,8 @@ fn clear(out: &mut [u16], from: usize, first: usize, rows: usize)
     }
 }
 
-// A block of so many rows, the first of them row `from` of the words, holds the part whose codes stand at `code`, then zeros.
-// `loops` is lent to keep the rows of the Loops around.
+// A block of so many rows, the first of them row `from` of the words, holds the part whose codes stand at `code`, then zeros. The answer is the
+// place behind those codes. `loops` is lent to keep the rows of the Loops around.
 pub fn lay_out(
     src: &[u16],
     code: usize,
@@ -198,16 +199,17 @@ pub fn lay_out(
     from: usize,
     rows: usize,
     loops: &mut [u16],
-)
-    ensures { λ _. ⌜ ((P : Part) → Ready P (now (src .entry)) code (now (out .entry)) from rows (now (loops .entry))
-        → now (out .exit) ≡ sets (now (out .entry)) (from * 4) (block (rows * 4) P)) ⌝ }
+) -> usize
+    ensures { λ r. ⌜ ((P : Part) → Ready P (now (src .entry)) code (now (out .entry)) from rows (now (loops .entry))
+        → (now (out .exit) ≡ sets (now (out .entry)) (from * 4) (block (rows * 4) P)) × (r ≡ code + length (codes P))) ⌝ }
 {
     if LIMIT < from {
-        return;
+        return code;
     }
     if LIMIT < rows {
-        return;
+        return code;
     }
     let end = lay(src, code, out, from, 0, loops, 0, LIMIT);
     clear(out, from, end.row, rows);
+    end.code
 }

@@ -1,7 +1,7 @@
 -- What the merge's mirror does with the words of two parts in rising order: it writes the words of their merge, and answers not ok
 -- exactly where they have none. Assumes nothing.
 use Prim.Native.Nat.{ℕ, zero, suc, _+_, _≤_, _<_, _%_}
-use mathlib.Core.Bool.{Bool, true, false, cond, true≢false}
+use mathlib.Core.Bool.{Bool, true, false, cond}
 use mathlib.Core.List.{List, [], _∷_, _++_}
 use mathlib.Core.Option.{Option, none, some, bind}
 use mathlib.Core.Path.{_≡_, refl, sym, _∙_, ap, subst}
@@ -11,13 +11,13 @@ use lib.Dec.{eqb, ltb}
 use lib.ListN.{length, getD, set, length-append}
 use lib.Seq.{sets}
 use borrow.Author.Tests.{ltb-true, ltb-false, eq-eqb, ne-eqb, lt-ltb, le-ltb}
-use Rattle.parts.specs.Part.{Part, p-end, p-send, p-receive, p-loop, p-back, PartArms, p-nil, p-arm, insert}
+use Rattle.parts.specs.Part.{Part, p-end, p-send, p-receive, p-loop, p-back, PartArms, p-nil, p-arm}
 use Rattle.parts.specs.Merge.{onlyIf, same, merge, mergeArms}
 use Rattle.parts.specs.mirror.Codes.{code, codes, codesArms}
 use Rattle.merge.specs.mirror.Merging.{FAR, Merge, rule, equalRule, armRule, stepOf, stepOut, copyOf, after, mergeBody, mergeOf}
-use Rattle.parts.proofs.Rising.{Above, Lacks, label, no-label, above-above, Rising, r-receive, r-loop, RisingArms, r-nil, r-arm, first-alone, second-alone, shared, insert-is}
+use Rattle.parts.proofs.Rising.{Above, label, no-label, above-above, Rising, r-receive, r-loop, RisingArms, r-arm, first-alone, second-alone, shared}
 use Rattle.parts.proofs.Sizes.{merge-words}
-use Rattle.parts.proofs.Words.{Stands, stands-arm, stands-same, stands-same-arms, sets-append, words-some, words-some-arms, words-arm}
+use Rattle.parts.proofs.Words.{Stands, stands-arm, stands-same-arms, sets-append, words-some, words-some-arms, words-arm}
 use Rattle.merge.proofs.Copies.{kind-of, is-inside, agreeing, stands-agreeing, agreeing-stands, copy-part, copy-arms}
 
 -- the words ws are written from `at` on, and the places behind the two sides are a and b
@@ -99,14 +99,14 @@ MergesArms n ps qs =
 -- ---- parts
 
 -- a part's first word
-abbrev head : Part → ℕ
+abbrev pub head : Part → ℕ
 head p-end = 0
 head (p-send q ps) = code 5 q
 head (p-receive q ps) = code 6 q
 head (p-loop P) = 3
 head (p-back k) = code 4 k
 
-head-stands : (P : Part) (s : List ℕ) (a : ℕ) → Stands s a (codes P) → getD s a 0 ≡ head P
+pub head-stands : (P : Part) (s : List ℕ) (a : ℕ) → Stands s a (codes P) → getD s a 0 ≡ head P
 unfolding codes
 head-stands p-end s a h = h .0
 head-stands (p-send q ps) s a h = h .0
@@ -384,36 +384,6 @@ all-merges (suc n) =
 
 -- ---- what callers cite
 
--- ok says whether there is something
-pub gives-ok : {A : Type 0} (words : A → List ℕ) (a b : ℕ) (o : List ℕ) (at : ℕ) (X : Option A) (m : Merge) → Gives words a b o at X m → m .res .ok ≡ true
-    → (x : A) × (X ≡ some x) × (m ≡ wrote a b o at (words x))
-gives-ok words a b o at none m h e = absurd (true≢false (sym e ∙ h))
-gives-ok words a b o at (some x) m h e = (x, refl, h)
-
--- the part at a, copied
-pub copy-is : (P : Part) (left : ℕ) (s : List ℕ) (a : ℕ) (o : List ℕ) (at : ℕ) → Stands s a (codes P) → length (codes P) ≤ left → left < FAR → a < FAR → at < FAR
-    → copyOf left s a a o at ≡ wrote (a + length (codes P)) (a + length (codes P)) o at (codes P)
-copy-is P left s a o at h l p q r = copy-part P left s a a o at h l p q q r ∙ rw (stands-agreeing true s a (codes P) h)
-
--- the arm list at a, copied
-pub copy-is-arms : (ps : PartArms) (left : ℕ) (s : List ℕ) (a : ℕ) (o : List ℕ) (at : ℕ) → Stands s a (codesArms ps) → length (codesArms ps) ≤ left → left < FAR → a < FAR → at < FAR
-    → copyOf left s a a o at ≡ wrote (a + length (codesArms ps)) (a + length (codesArms ps)) o at (codesArms ps)
-copy-is-arms ps left s a o at h l p q r = copy-arms ps left s a a o at h l p q q r ∙ rw (stands-agreeing true s a (codesArms ps) h)
-
--- the part at a, copied if the part at b is the same throughout
-pub same-is : (P Q : Part) (left : ℕ) (s : List ℕ) (a b : ℕ) (o : List ℕ) (at : ℕ) → Stands s a (codes P) → Stands s b (codes Q) → length (codes P) ≤ left
-    → left < FAR → a < FAR → b < FAR → at < FAR
-    → Gives codes (a + length (codes P)) (b + length (codes P)) o at (onlyIf (same P Q) (some P)) (copyOf left s a b o at)
-unfolding onlyIf
-same-is P Q left s a b o at g h l p q r t = go (same P Q) (agreeing true s b (codes P)) refl
-  where
-    go : (d : Dec (P ≡ Q)) (c : Bool) → agreeing true s b (codes P) ≡ c
-        → Gives codes (a + length (codes P)) (b + length (codes P)) o at (onlyIf d (some P)) (copyOf left s a b o at)
-    go (yes e) c f =
-        copy-part P left s a b o at g l p q r t ∙ rw (stands-agreeing true s b (codes P) (subst (λ (R : Part). Stands s b (codes R)) (sym e) h))
-    go (no d) true f = absurd (d (stands-same P Q s b (agreeing-stands true s b (codes P) f .1) h))
-    go (no d) false f = rw (copy-part P left s a b o at g l p q r t) f
-
 -- the parts at a and b, merged
 pub merge-is : (P Q : Part) (left : ℕ) (s : List ℕ) (a b : ℕ) (o : List ℕ) (at : ℕ) → Rising P → Rising Q → Stands s a (codes P) → Stands s b (codes Q)
     → length (codes P) + length (codes Q) ≤ left → left < FAR → a + length (codes P) ≤ FAR → b + length (codes Q) ≤ FAR → at + length (codes P) + length (codes Q) ≤ FAR
@@ -425,12 +395,3 @@ pub merge-is-arms : (ps qs : PartArms) (left : ℕ) (s : List ℕ) (a b : ℕ) (
     → length (codesArms ps) + length (codesArms qs) ≤ left → left < FAR → a + length (codesArms ps) ≤ FAR → b + length (codesArms qs) ≤ FAR → at + length (codesArms ps) + length (codesArms qs) ≤ FAR
     → Gives codesArms (a + length (codesArms ps)) (b + length (codesArms qs)) o at (mergeArms ps qs) (mergeOf left s a b o at)
 merge-is-arms ps qs left s a b o at u v g h l z p q r = all-merges left .1 ps qs s a b o at (a + length (codesArms ps)) (b + length (codesArms qs)) u v g h l z p q r refl refl
-
--- one arm at a, put in its place among the arms at b, none of which has its label
-pub insert-arm : (l : ℕ) (P : Part) (qs : PartArms) (left : ℕ) (s : List ℕ) (a b : ℕ) (o : List ℕ) (at : ℕ) → Rising P → RisingArms qs → Lacks l qs
-    → Stands s a (codesArms (p-arm l P p-nil)) → Stands s b (codesArms qs)
-    → length (codesArms (p-arm l P p-nil)) + length (codesArms qs) ≤ left → left < FAR → a + length (codesArms (p-arm l P p-nil)) ≤ FAR → b + length (codesArms qs) ≤ FAR
-    → at + length (codesArms (p-arm l P p-nil)) + length (codesArms qs) ≤ FAR
-    → mergeOf left s a b o at ≡ wrote (a + length (codesArms (p-arm l P p-nil))) (b + length (codesArms qs)) o at (codesArms (insert l P qs))
-insert-arm l P qs left s a b o at u v k g h m z p q r =
-    rw (insert-is P k) at (merge-is-arms (p-arm l P p-nil) qs left s a b o at (r-arm no-label u r-nil) v g h m z p q r)

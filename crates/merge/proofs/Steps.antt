@@ -5,16 +5,16 @@ use mathlib.Core.Bool.{Bool, true, false, _&&_, _||_, cond, true≢false}
 use mathlib.Core.List.{List}
 use native.Mathlib.Omega.{arith}
 use native.Mathlib.Numerals.{sub-one}
-use lib.ListN.{getD, set}
+use lib.ListN.{length, getD, set}
 use lib.Dec.{ltb, eqb}
-use borrow.Author.Tests.{ltb-true, lt-ltb}
+use borrow.Author.Tests.{ltb-true, lt-ltb, eqb-true}
+pub use Rattle.words.proofs.Below.{and-both as both-true}
+use Rattle.parts.proofs.Seven.{seven-more}
 use Rattle.merge.specs.declared.Merged.{Merged}
 use Rattle.merge.specs.declared.Step.{Step}
-use Rattle.merge.specs.mirror.Merging.{FAR, inside, kids, rule, stopped, copyOn, copyOf, stepOf, stepOut, byRule, bothOk, mergeBody, mergeOf, joinOf}
-
-pub both-true : (a b : Bool) → (a && b) ≡ true → (a ≡ true) × (b ≡ true)
-both-true true b e = (refl, e)
-both-true false b e = absurd (true≢false (sym e))
+use Rattle.merge.specs.declared.Places.{Places}
+use Rattle.merge.specs.mirror.Merging.{FAR, inside, kids, rule, stopped, copyOn, copyOf, stepOf, stepOut, bothOk, mergeBody, mergeOf}
+use Rattle.merge.specs.mirror.Merging.{putOn, behindOn, behindOf, comesFirst, behindArmsOn, receiveBoth, skipOf, joinFrom, joinOf}
 
 pub inside-bounds : (left a b at : ℕ) → inside left a b at ≡ true → (0 < left) × (left < FAR) × (a < FAR) × (b < FAR) × (at < FAR)
 inside-bounds left a b at e =
@@ -70,15 +70,6 @@ step-left n s a b at h = go (inside n a b at) refl
     go true e = rw e
     go false e = absurd (omega (arith, rw e at h))
 
-by-six : {A : Type 0} (n : ℕ) (a b c d e f g : A) → 5 < n → byRule n a b c d e f g ≡ g
-by-six zero a b c d e f g l = absurd (omega arith)
-by-six (suc zero) a b c d e f g l = absurd (omega arith)
-by-six (suc (suc zero)) a b c d e f g l = absurd (omega arith)
-by-six (suc (suc (suc zero))) a b c d e f g l = absurd (omega arith)
-by-six (suc (suc (suc (suc zero)))) a b c d e f g l = absurd (omega arith)
-by-six (suc (suc (suc (suc (suc zero))))) a b c d e f g l = absurd (omega arith)
-by-six (suc (suc (suc (suc (suc (suc n)))))) a b c d e f g l = refl
-
 merge-eq : (n : ℕ) (s : List ℕ) (a b : ℕ) (o : List ℕ) (at : ℕ)
     → mergeOf n s a b o at ≡ mergeBody (copyOf (n - 1) s) (mergeOf (n - 1) s) (stepOf n s a b at) a b (stepOut n s a b o at) at
 unfolding mergeOf stepOf stepOut
@@ -127,7 +118,7 @@ module _ (n : ℕ) (s : List ℕ) (a b : ℕ) (o : List ℕ) (at : ℕ) (st : St
 
   pub way6 : 5 < st .rule → (one two r : Merged) (u w : List ℕ) → Merges one u (st .a) (st .b) o′ (st .at)
       → Merges two w (one .a) (one .b) u (one .at) → r ≡ bothOk (one .ok) two → Is r w
-  way6 e one two r u w p q j = rw (at-rule (omega arith), by-six (st .rule) _ _ _ _ _ _ _ e, ← (p .0), ← (p .1), j, ← (q .0)) (refl, q .1)
+  way6 e one two r u w p q j = rw (at-rule (omega arith), seven-more (st .rule) _ _ _ _ _ _ _ e, ← (p .0), ← (p .1), j, ← (q .0)) (refl, q .1)
 
 -- a rule that is none of 0 to 5
 pub over5 : (n : ℕ) → (n ≡ 0 → ⊥) → (n ≡ 1 → ⊥) → (n ≡ 2 → ⊥) → (n ≡ 3 → ⊥) → (n ≡ 4 → ⊥) → (n ≡ 5 → ⊥) → 5 < n
@@ -135,11 +126,72 @@ over5 n p0 p1 p2 p3 p4 p5 = omega arith
 
 -- ---- join
 
-pub join-steps : (left : ℕ) (work spare : List ℕ) (a b : ℕ) (m c : Merged) (spare′ work′ : List ℕ)
-    → (m ≡ mergeOf left work a b spare 0 .res) × (spare′ ≡ mergeOf left work a b spare 0 .out)
-    → (c ≡ copyOf left spare′ 0 0 work a .res) × (work′ ≡ copyOf left spare′ 0 0 work a .out)
-    → (record { ok = m .ok && c .ok; at = c .at } ≡ joinOf left work spare a b .res) × (work′ ≡ joinOf left work spare a b .work)
+-- a turn of the loop that puts words: o′ are the words behind it
+pub put-turn : (n : ℕ) (s : List ℕ) (i : ℕ) (o : List ℕ) (at : ℕ) (o′ : List ℕ) (k : ℕ) → 0 < n → at < length o → o′ ≡ set o at (getD s i 0) → k ≡ n - 1
+    → putOn n s i o at ≡ putOn k s (i + 1) o′ (at + 1)
+unfolding putOn
+put-turn zero s i o at o′ k p q e f = absurd (omega arith)
+put-turn (suc n) s i o at o′ k p q e f = rw (lt-ltb at (length o) q, e, f, sub-one)
+
+-- the loop is left
+pub put-left : (n : ℕ) (s : List ℕ) (i j : ℕ) (o : List ℕ) (at : ℕ) → (ltb i j && ltb at (length o)) ≡ false → n ≡ j - i
+    → putOn n s i o at ≡ record { end = at; out = o }
+unfolding putOn
+put-left zero s i j o at e f = refl
+put-left (suc n) s i j o at e f =
+    let h : ltb at (length o) ≡ false = rw (lt-ltb i j (omega arith)) at e in
+    rw h
+
+-- a turn of the loop to the place behind a part: k is what the word at x still owes
+pub behind-turn : (n : ℕ) (s : List ℕ) (x owed k m : ℕ) → 0 < n → 0 < owed → k ≡ kids (getD s x 0) → m ≡ n - 1
+    → behindOn n s x owed ≡ behindOn m s (x + 1) (owed - 1 + k)
+unfolding behindOn
+behind-turn zero s x owed k m p q ek em = absurd (omega arith)
+behind-turn (suc n) s x zero k m p q ek em = absurd (omega arith)
+behind-turn (suc n) s x (suc o) k m p q ek em = rw (ek, em) (simp sub-one)
+
+-- the loop is left
+pub behind-left : (n : ℕ) (s : List ℕ) (x owed l : ℕ) → (ltb 0 owed && ltb x l) ≡ false → n ≡ l - x → behindOn n s x owed ≡ x
+unfolding behindOn
+behind-left zero s x owed l e f = refl
+behind-left (suc n) s x zero l e f = refl
+behind-left (suc n) s x (suc m) l e f =
+    absurd (true≢false (sym (rw (lt-ltb 0 (suc m) (omega arith), lt-ltb x l (omega arith))) ∙ e))
+
+-- a turn of the loop over arms: z is the place behind the arm at x
+pub arms-turn : (n : ℕ) (s : List ℕ) (x y z : ℕ) → comesFirst s x y ≡ true → z ≡ behindOf s (x + 1) → 0 < n
+    → behindArmsOn n s x y ≡ behindArmsOn (n - 1) s z y
+unfolding behindArmsOn
+arms-turn zero s x y z e ez p = absurd (omega arith)
+arms-turn (suc n) s x y z e ez p = rw (e, ez, sub-one)
+
+-- the loop is left
+pub arms-left : (n : ℕ) (s : List ℕ) (x y : ℕ) → comesFirst s x y ≡ false → behindArmsOn n s x y ≡ x
+unfolding behindArmsOn
+arms-left zero s x y e = refl
+arms-left (suc n) s x y e = rw e
+
+-- the place and the word of an arm that comes first
+pub first-is : (s : List ℕ) (x y : ℕ) → comesFirst s x y ≡ true → (x < length s) × (getD s x 0 % 8 ≡ 2) × (getD s x 0 < y)
+first-is s x y e =
+    let (p, q) = both-true _ (ltb (getD s x 0) y) e in
+    let (l, k) = both-true (ltb x (length s)) (eqb (getD s x 0 % 8) 2) p in
+    (ltb-true x (length s) l, eqb-true (getD s x 0 % 8) 2 k, ltb-true (getD s x 0) y q)
+
+-- the places and the word of two Receives from one role
+pub receive-is : (s : List ℕ) (a b : ℕ) → receiveBoth s a b ≡ true → (a < length s) × (b < length s) × (getD s a 0 % 8 ≡ 6) × (getD s a 0 ≡ getD s b 0)
+receive-is s a b e =
+    let (abk, w) = both-true _ (eqb (getD s a 0) (getD s b 0)) e in
+    let (ab, k) = both-true _ (eqb (getD s a 0 % 8) 6) abk in
+    let (p, q) = both-true (ltb a (length s)) (ltb b (length s)) ab in
+    (ltb-true a (length s) p, ltb-true b (length s) q, eqb-true (getD s a 0 % 8) 6 k, eqb-true (getD s a 0) (getD s b 0) w)
+
+pub join-steps : (left : ℕ) (work spare : List ℕ) (a b : ℕ) (from : Places) (m : Merged) (end : ℕ) (spare′ work′ : List ℕ)
+    → from ≡ skipOf work a b
+    → (m ≡ mergeOf left work (from .a) (from .b) spare 0 .res) × (spare′ ≡ mergeOf left work (from .a) (from .b) spare 0 .out)
+    → (end ≡ putOn (m .at) spare′ 0 work (from .a) .end) × (work′ ≡ putOn (m .at) spare′ 0 work (from .a) .out)
+    → (record { ok = m .ok; at = end } ≡ joinOf left work spare a b .res) × (work′ ≡ joinOf left work spare a b .work)
     × (spare′ ≡ joinOf left work spare a b .spare)
-unfolding joinOf
-join-steps left work spare a b m c spare′ work′ p q =
-    rw (← (p .0), ← (p .1), ← (q .0), ← (q .1)) (refl, refl, refl)
+unfolding joinFrom
+join-steps left work spare a b from m end spare′ work′ f p q =
+    rw (← f, ← (p .0), ← (p .1), q .0, q .1) (refl, refl, refl)

@@ -1,10 +1,10 @@
 // The merge of two parts. A part is one word a row in the order met, kind + 8 x argument (specs/mirror/Codes.antt): 0 End, 1 the mark
 // behind an action's last arm, 2 Arm, 3 Loop, 4 Back, 5 Send, 6 Receive. Every place is tested before use, so no sum wraps, whatever
-// the words are. What these functions do with the words of parts is proved in proofs/MergeMeaning.antt and MergeJoin.antt.
+// the words are. What these functions do with the words of parts is proved in proofs/Meaning.antt and Joins.antt.
 ghost use mathlib.Core.Path.{_≡_};
 ghost use mathlib.Core.Bool.{cond};
 ghost use Prim.Native.Nat.{_<_, _≤_};
-ghost use Rattle.merge.specs.mirror.Merging.{inside, kids, copyOf, equalRule, armRule, rule, stepOf, stepOut, bothOk, mergeOf, joinOf};
+ghost use Rattle.merge.specs.mirror.Merging.{inside, kids, copyOf, equalRule, armRule, rule, stepOf, stepOut, bothOk, mergeOf, putOn, behindOf, comesFirst, behindArms, skipOf, joinOf};
 
 // Places and numbers of rows stay below this; a part has at most 512 words.
 const FAR: usize = 65536;
@@ -30,6 +30,12 @@ struct Step {
     b: usize,
     at: usize,
     left: usize,
+}
+
+// A place on either side.
+struct Places {
+    a: usize,
+    b: usize,
 }
 
 // A row remains, and no place or number is so large that a sum could wrap.
@@ -204,17 +210,77 @@ pub fn merge(src: &[u16], a: usize, b: usize, out: &mut [u16], at: usize, left: 
     }
 }
 
-// The merge of the parts or arm lists at `a` and `b` of `work` takes the place of the one at `a`; it is made in `spare`. A single arm at
-// `b` whose label is not at `a` is so put in its place among the arms at `a`.
+// Puts the first n words of `src` at `at`, as far as `out` reaches. The answer is the place behind them.
+fn put(src: &[u16], n: usize, out: &mut [u16], at: usize) -> usize
+    ensures { λ r. ⌜ (r ≡ putOn n (now (src .entry)) 0 (now (out .entry)) at .end)
+        × (now (out .exit) ≡ putOn n (now (src .entry)) 0 (now (out .entry)) at .out) ⌝ }
+{
+    let mut i = 0;
+    let mut t = at;
+    while (i < n) & (t < out.len()) {
+        words::poke(out, t, words::peek(src, i));
+        i += 1;
+        t += 1;
+    }
+    t
+}
+
+// The place behind the part at `a`, as far as `src` reaches.
+fn behind(src: &[u16], a: usize) -> usize
+    ensures { λ r. ⌜ (r ≡ behindOf (now (src .entry)) a) × (a ≤ r) ⌝ }
+{
+    let mut x = a;
+    // parts and arm lists that are still to come
+    let mut owed: usize = 1;
+    while (0 < owed) & (x < src.len()) {
+        owed = owed - 1 + kids(words::peek(src, x)) as usize;
+        x += 1;
+    }
+    x
+}
+
+// An arm at `x` that comes before the arm whose word is y.
+fn comes_first(src: &[u16], x: usize, y: u16) -> bool
+    ensures { λ r. ⌜ r ≡ comesFirst (now (src .entry)) x y ⌝ }
+{
+    let w = words::peek(src, x);
+    (x < src.len()) & (w % 8 == 2) & (w < y)
+}
+
+// The place behind the arms from `a` on that come before the arm whose word is y.
+fn behind_arms(src: &[u16], a: usize, y: u16) -> usize
+    ensures { λ r. ⌜ r ≡ behindArms (now (src .entry)) a y ⌝ }
+{
+    let mut x = a;
+    while comes_first(src, x, y) {
+        x = behind(src, x + 1);
+    }
+    x
+}
+
+// Where the merge of the parts at `a` and `b` starts. Of two Receives from one role, the arms of the first that come before all of the
+// second's are the merge's first arms and stand where they should.
+fn skip(src: &[u16], a: usize, b: usize) -> Places
+    ensures { λ r. ⌜ r ≡ skipOf (now (src .entry)) a b ⌝ }
+{
+    let w = words::peek(src, a);
+    if (a < src.len()) & (b < src.len()) & (w % 8 == 6) & (w == words::peek(src, b)) {
+        return Places {
+            a: behind_arms(src, a + 1, words::peek(src, b + 1)),
+            b: b + 1,
+        };
+    }
+    Places { a: a, b: b }
+}
+
+// The merge of the parts at `a` and `b` of `work` takes the place of the one at `a`. What does not stand there yet is made in `spare`.
 pub fn join(work: &mut [u16], spare: &mut [u16], a: usize, b: usize, left: usize) -> Joined
     ensures { λ r. ⌜ (r ≡ joinOf left (now (work .entry)) (now (spare .entry)) a b .res)
         × (now (work .exit) ≡ joinOf left (now (work .entry)) (now (spare .entry)) a b .work)
         × (now (spare .exit) ≡ joinOf left (now (work .entry)) (now (spare .entry)) a b .spare) ⌝ }
 {
-    let m = merge(work, a, b, spare, 0, left);
-    let c = copy(spare, 0, 0, work, a, left);
-    Joined {
-        ok: m.ok & c.ok,
-        at: c.at,
-    }
+    let from = skip(work, a, b);
+    let m = merge(work, from.a, from.b, spare, 0, left);
+    let end = put(spare, m.at, work, from.a);
+    Joined { ok: m.ok, at: end }
 }

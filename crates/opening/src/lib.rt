@@ -2,38 +2,23 @@
 pub mod marked;
 
 ghost use mathlib.Core.Path.{_≡_};
-ghost use mathlib.Core.Bool.{not};
 ghost use mathlib.Core.List.{_++_};
 ghost use Prim.Native.Nat.{_*_};
 ghost use lib.ListN.{length, drop};
-ghost use Rattle.words.specs.Below.{lowest};
 ghost use Rattle.table.specs.Limits.{base};
-ghost use Rattle.table.specs.Check.{checkOf, accepted};
-ghost use Rattle.parts.specs.Projection.{partOf, present};
 ghost use Rattle.opening.specs.Opening.{openOf, blocks, roomOf};
 ghost use Rattle.opening.specs.mirror.Ready.{Ready};
 use table::Table;
 use table::Verdict;
 
-// The lowest role that has no part, or `roles`.
-fn first_without_part(table: &[u16], roles: usize) -> usize
-    requires { ⌜ checkOf base (now table) roles ≡ accepted ⌝ }
-    ensures { λ r. ⌜ r ≡ lowest (λ k. not (present (partOf (now (table .entry)) k))) roles ⌝ }
-{
-    let mut role = 0;
-    while role < roles {
-        if projection::has_part(table, roles, role) {
-            role += 1;
-        } else {
-            return role;
-        }
-    }
-    role
-}
+// A part has at most two words for each row of the table.
+const PARTS: usize = Table::ROLES * Table::ROWS * 2;
 
-// Every refusal is found here, before a word of the room is written.
-fn verdict(table: &[u16], roles: usize, room: usize) -> Verdict
-    ensures { λ r. ⌜ (r ≡ openOf base (now (table .entry)) roles room) × (r .number ≡ 0 → Ready (now (table .entry)) roles room) ⌝ }
+// Every refusal is found here, before a word of the room is written. Accepted, the words of the parts stand in `parts`.
+fn verdict(table: &[u16], roles: usize, room: usize, parts: &mut [u16]) -> Verdict
+    requires { ⌜ length (now parts) ≡ 4096 ⌝ }
+    ensures { λ r. ⌜ (r ≡ openOf base (now (table .entry)) roles room)
+        × (r .number ≡ 0 → Ready (now (table .entry)) roles room (now (parts .exit))) ⌝ }
 {
     let sizes = Table::sizes(table, roles);
     let size_number = sizes.number;
@@ -46,12 +31,12 @@ fn verdict(table: &[u16], roles: usize, room: usize) -> Verdict
             place: 0,
         };
     }
-    let checked = Table::check(table, roles);
+    let checked = rules::check(table, roles);
     let rule_number = checked.number;
     if rule_number != Verdict::ACCEPTED {
         return checked;
     }
-    let role = first_without_part(table, roles);
+    let role = projection::parts(table, roles, parts);
     if role < roles {
         return Verdict {
             number: Verdict::NOPART,
@@ -65,13 +50,16 @@ fn verdict(table: &[u16], roles: usize, room: usize) -> Verdict
 }
 
 // The blocks, role 0 first, over the first words of the room.
-fn fill(table: &[u16], roles: usize, room: &mut [u16])
-    requires { ⌜ Ready (now table) roles (length (now room)) ⌝ }
+fn fill(table: &[u16], roles: usize, parts: &[u16], room: &mut [u16])
+    requires { ⌜ Ready (now table) roles (length (now room)) (now parts) ⌝ }
     ensures { λ _. ⌜ now (room .exit) ≡ blocks (now (table .entry)) roles ++ drop (roles * length (now (table .entry))) (now (room .entry)) ⌝ }
 {
+    let rows = table.len() / 4;
+    let mut loops = [0u16; Table::ROWS];
     let mut role = 0;
+    let mut code = 0;
     while role < roles {
-        projection::write_part(table, roles, role, room, role * table.len());
+        code = layout::lay_out(parts, code, room, role * rows, rows, &mut loops);
         role += 1;
     }
 }
@@ -81,10 +69,11 @@ pub fn open(table: &[u16], roles: usize, room: &mut [u16]) -> Verdict
     ensures { λ r. ⌜ (r ≡ openOf base (now (table .entry)) roles (length (now (room .entry))))
         × (now (room .exit) ≡ roomOf base (now (table .entry)) roles (now (room .entry))) ⌝ }
 {
-    let answer = verdict(table, roles, room.len());
+    let mut parts = [0u16; PARTS];
+    let answer = verdict(table, roles, room.len(), &mut parts);
     let number = answer.number;
     if number == Verdict::ACCEPTED {
-        fill(table, roles, room);
+        fill(table, roles, &parts, room);
     }
     answer
 }

@@ -1,4 +1,4 @@
--- How long a part's codes, rows and block are. Assumes nothing.
+-- How long a part's rows and block are. Assumes nothing.
 use Prim.Native.Nat.{ℕ, suc, _+_, _*_, _-_, _<_, _≤_}
 use mathlib.Core.List.{List, [], _∷_}
 use mathlib.Core.Path.{_≡_, refl}
@@ -6,7 +6,6 @@ use native.Mathlib.Omega.{arith}
 use lib.ListN.{length, replicate, length-append, length-replicate}
 use Rattle.parts.specs.Part.{Part, p-end, p-send, p-receive, p-loop, p-back, PartArms, p-nil, p-arm}
 use Rattle.parts.specs.Layout.{size, sizeArms, layout, layoutArms, block}
-use Rattle.parts.specs.mirror.Codes.{codes, codesArms}
 
 -- four words a row
 mutual
@@ -39,18 +38,3 @@ size-pos (p-send q ps) = omega arith
 size-pos (p-receive q ps) = omega arith
 size-pos (p-loop P) = omega arith
 size-pos (p-back k) = omega arith
-
--- a part has at most twice as many words as rows, and an arm list one more
-mutual
-  unfolding size codes
-
-  pub words-twice : (P : Part) → length (codes P) ≤ 2 * size P
-  words-twice p-end = omega arith
-  words-twice (p-send q ps) = omega (arith, words-twice-arms ps)
-  words-twice (p-receive q ps) = omega (arith, words-twice-arms ps)
-  words-twice (p-loop P) = omega (arith, words-twice P)
-  words-twice (p-back k) = omega arith
-
-  pub words-twice-arms : (ps : PartArms) → length (codesArms ps) ≤ 2 * sizeArms ps + 1
-  words-twice-arms p-nil = omega arith
-  words-twice-arms (p-arm l P ps) = omega (arith, length-append (codes P) (codesArms ps), words-twice P, words-twice-arms ps)

@@ -3,12 +3,12 @@
 use Prim.Native.Nat.{ℕ, _<_}
 use mathlib.Core.Bool.{Bool, true, false, cond}
 use mathlib.Core.Option.{Option, none, some, bind}
-use mathlib.Core.Path.{_≡_, refl, sym, _∙_, ap, subst}
+use mathlib.Core.Path.{_≡_, refl, subst}
 use native.Mathlib.Omega.{arith}
 use native.Mathlib.Decide.{ℕ-discrete}
 use lib.Dec.{leb, eqb}
 use borrow.Author.Tests.{leb-true, leb-false, le-leb, lt-leb, eq-eqb, ne-eqb, eqb-true, eqb-false}
-use Rattle.parts.specs.Part.{Part, p-end, p-send, p-receive, p-loop, p-back, PartArms, p-nil, p-arm, insert, rising, armOf, without}
+use Rattle.parts.specs.Part.{Part, p-send, p-receive, PartArms, p-nil, p-arm, insert, rising, armOf, without}
 pub use Rattle.parts.specs.mirror.Rising.{Labels, no-label, label, Above, Rising, r-end, r-send, r-receive, r-loop, r-back, RisingArms, r-nil, r-arm}
 use Rattle.parts.specs.Merge.{onlyIf, same, mergeShared, merge, mergeArms}
 use Rattle.parts.specs.Projection.{mergeFrom, mergeAll, partExchange}
@@ -147,11 +147,6 @@ second-alone {k} Q qs (label {l} {P} {ps} n h) =
     go none e = refl
     go (some M) e = rw e (swap M (mergeArms ps (without l qs)))
 
--- an arm whose label is not there is put in its place by a merge
-pub insert-is : {l : ℕ} (P : Part) {qs : PartArms} → Lacks l qs → mergeArms (p-arm l P p-nil) qs ≡ some (insert l P qs)
-unfolding mergeArms mergeShared bind
-insert-is P h = rw (lacks-armOf h, lacks-without h)
-
 -- ---- rising order
 
 pub insert-rising : {ps : PartArms} (l : ℕ) {P : Part} → Rising P → RisingArms ps → Lacks l ps → RisingArms (insert l P ps)
@@ -183,51 +178,6 @@ pub rising-is : {ps : PartArms} → Distinct ps → EachRising ps → RisingArms
 unfolding rising
 rising-is d-nil e-nil = r-nil
 rising-is (d-arm {l} n d) (e-arm p e) = insert-rising l p (rising-is d e) (rising-labels n)
-
-insert-below : {l k : ℕ} (P Q : Part) (ps : PartArms) → l < k → insert l P (insert k Q ps) ≡ insert k Q (insert l P ps)
-unfolding insert
-insert-below {l} {k} P Q p-nil o = rw (le-leb l k (omega arith), lt-leb k l o)
-insert-below {l} {k} P Q (p-arm j T ts) o = go (leb k j) (leb l j) refl refl (insert-below P Q ts o)
-  where
-    go : (b c : Bool) → leb k j ≡ b → leb l j ≡ c → insert l P (insert k Q ts) ≡ insert k Q (insert l P ts)
-        → insert l P (cond b (p-arm k Q (p-arm j T ts)) (p-arm j T (insert k Q ts))) ≡ insert k Q (cond c (p-arm l P (p-arm j T ts)) (p-arm j T (insert l P ts)))
-    go true true e f i = rw (le-leb l k (omega arith), lt-leb k l o, e)
-    go true false e f i = absurd (omega (arith, leb-true k j e, leb-false l j f))
-    go false true e f i = rw (f, lt-leb k l o, e)
-    go false false e f i = rw (f, e, i)
-
--- two arms of different labels may be put in their places in either order
-pub insert-insert : {l k : ℕ} (P Q : Part) (ps : PartArms) → (l ≡ k → ⊥) → insert l P (insert k Q ps) ≡ insert k Q (insert l P ps)
-insert-insert {l} {k} P Q ps n = go (leb l k) refl
-  where
-    go : (b : Bool) → leb l k ≡ b → insert l P (insert k Q ps) ≡ insert k Q (insert l P ps)
-    go true e = insert-below P Q ps (omega (arith, leb-true l k e))
-    go false e = sym (insert-below Q P ps (leb-false l k e))
-
--- the same, where the arm to put in its place comes second
-pub insert-last : {l : ℕ} (P : Part) {qs : PartArms} → RisingArms qs → Lacks l qs → mergeArms qs (p-arm l P p-nil) ≡ some (insert l P qs)
-unfolding mergeArms mergeShared bind armOf without insert
-insert-last P r-nil no-label = refl
-insert-last {l} P (r-arm {l = k} {P = Q} {ps = qs} a q h) (label n m) =
-    let d : k ≡ l → ⊥ = λ e. n (sym e) in
-    rw (ne-eqb k l d, insert-last P h m)
-    (ap {B = Option PartArms} some (insert-insert Q P qs d ∙ ap (λ (ps : PartArms). insert l P ps) (above-insert Q a)))
-
--- arms put in their places one after the other, the first of them first
-abbrev pub into : PartArms → PartArms → PartArms
-into acc p-nil = acc
-into acc (p-arm l P ps) = into (insert l P acc) ps
-
-into-insert : {l : ℕ} (P : Part) (acc : PartArms) {ps : PartArms} → Lacks l ps → into (insert l P acc) ps ≡ insert l P (into acc ps)
-into-insert P acc no-label = refl
-into-insert {l} P acc (label {l = k} {P = Q} n h) =
-    rw (insert-insert Q P acc (λ e. n (sym e))) (into-insert P (insert k Q acc) h)
-
--- which sorts them
-pub into-rising : {ps : PartArms} → Distinct ps → into p-nil ps ≡ rising ps
-unfolding rising
-into-rising d-nil = refl
-into-rising (d-arm {l} {P} n d) = into-insert P p-nil n ∙ ap (λ (ps : PartArms). insert l P ps) (into-rising d)
 
 -- ---- merging keeps rising order
 

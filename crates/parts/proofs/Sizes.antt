@@ -145,9 +145,6 @@ mutual
 pub words-twice : (P : Part) → length (codes P) ≤ 2 * size P
 words-twice P = omega (arith, words-weight P, size-weight P, twice P)
 
-pub words-twice-arms : (ps : PartArms) → length (codesArms ps) ≤ 2 * sizeArms ps + 1
-words-twice-arms ps = omega (arith, words-weight-arms ps, size-weight-arms ps, twice-arms ps)
-
 pub merge-size : (P Q : Part) {M : Part} → merge P Q ≡ some M → size M ≤ size P + size Q
 merge-size P Q {M} e =
     let h : Light 0 P Q M = holds-some (merge-weight 0 P Q) e in
@@ -157,11 +154,6 @@ pub merge-words : (P Q : Part) {M : Part} → merge P Q ≡ some M → length (c
 merge-words P Q {M} e =
     let h : Light 1 P Q M = holds-some (merge-weight 1 P Q) e in
     omega (arith, words-weight P, words-weight Q, words-weight M)
-
-pub merge-size-arms : (ps qs : PartArms) {ms : PartArms} → mergeArms ps qs ≡ some ms → sizeArms ms ≤ sizeArms ps + sizeArms qs
-merge-size-arms ps qs {ms} e =
-    let h : LightArms 0 ps qs ms = holds-some (merge-weight-arms 0 ps qs) e in
-    omega (arith, size-weight-arms ps, size-weight-arms qs, size-weight-arms ms)
 
 pub merge-words-arms : (ps qs : PartArms) {ms : PartArms} → mergeArms ps qs ≡ some ms → length (codesArms ms) ≤ length (codesArms ps) + length (codesArms qs)
 merge-words-arms ps qs {ms} e =

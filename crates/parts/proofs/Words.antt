@@ -19,10 +19,6 @@ pub stands-back : (s : List ℕ) (a c : ℕ) (u v : List ℕ) → c ≡ a + leng
 stands-back s a c [] v e h = rw (e, add-zero) h
 stands-back s a c (w ∷ u) v e h = stands-back s (suc a) c u v (omega arith) (h .1)
 
-pub stands-both : (s : List ℕ) (a c : ℕ) (u v : List ℕ) → c ≡ a + length u → Stands s a u → Stands s c v → Stands s a (u ++ v)
-stands-both s a c [] v e h i = rw (e, add-zero) at i
-stands-both s a c (w ∷ u) v e h i = (h .0, stands-both s (suc a) c u v (omega arith) (h .1) i)
-
 -- the words of a list stand where a slice of it has them
 pub stands-at : (s : List ℕ) (a : ℕ) (ws : List ℕ) → ((i : ℕ) → i < length ws → getD s (a + i) 0 ≡ getD ws i 0) → Stands s a ws
 stands-at s a [] f = tt
@@ -61,11 +57,6 @@ sets-stands o i (w ∷ ws) h = (
 )
 
 -- what stands elsewhere still stands
-pub stands-sets : (o : List ℕ) (i : ℕ) (ws : List ℕ) (a : ℕ) (vs : List ℕ) → (a + length vs ≤ i) ⊎ (i + length ws ≤ a) → Stands o a vs → Stands (sets o i ws) a vs
-stands-sets o i ws a vs h t =
-    stands-at (sets o i ws) a vs
-    (λ k l. sets-other o i ws (a + k) (⊎-elim (λ m. inl (omega arith)) (λ m. inr (omega arith)) h) ∙ stands-get o a vs t k l)
-
 -- ---- parts
 
 pub words-some : (P : Part) → 0 < length (codes P)

@@ -1,5 +1,5 @@
 -- Document 01, 'Parts: projection and merge': how a part is stored in rows of four words. Assumes nothing.
-use Prim.Native.Nat.{ℕ, zero, suc, _+_, _-_}
+use Prim.Native.Nat.{ℕ, suc, _+_, _-_}
 use mathlib.Core.List.{List, [], _∷_, _++_}
 use mathlib.Core.Option.{Option, none, some}
 use lib.ListN.{getD, length, replicate}

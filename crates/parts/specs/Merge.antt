@@ -1,5 +1,4 @@
 -- Document 01, 'Parts: projection and merge': merging, one level of branches at a time. Assumes nothing.
-use Prim.Native.Nat.{ℕ}
 use mathlib.Core.Option.{Option, none, some, bind}
 use mathlib.Core.Path.{_≡_}
 use native.Mathlib.Decide.{ℕ-discrete}

@@ -1,21 +1,21 @@
 -- What `merge::join` leaves on the stack. Assumes nothing.
-use Prim.Native.Nat.{ℕ, suc, _+_, _*_, _≤_}
+use Prim.Native.Nat.{ℕ, _+_, _*_, _≤_}
 use mathlib.Core.List.{List, _++_, append-assoc}
 use mathlib.Core.Option.{Option, none, some}
 use mathlib.Core.Path.{_≡_, refl, sym, _∙_, ap}
 use native.Mathlib.Omega.{arith}
 use lib.ListN.{length, take, drop, length-append}
 use lib.Seq.{sets, sets-eq, take-at, take-append-seam, drop-append-seam}
-use Rattle.parts.specs.Part.{Part, PartArms}
-use Rattle.parts.specs.Merge.{merge, mergeArms}
-use Rattle.parts.specs.Layout.{size, sizeArms}
-use Rattle.parts.specs.mirror.Codes.{codes, codesArms}
+use Rattle.parts.specs.Part.{Part}
+use Rattle.parts.specs.Merge.{merge}
+use Rattle.parts.specs.Layout.{size}
+use Rattle.parts.specs.mirror.Codes.{codes}
 use Rattle.merge.specs.mirror.Merging.{Join, joinOf}
-use Rattle.parts.specs.mirror.Rising.{Rising, RisingArms}
+use Rattle.parts.specs.mirror.Rising.{Rising}
 use Rattle.projection.specs.mirror.Projects.{Stack, Space, Outcome, fails, puts}
 use Rattle.merge.specs.declared.Joined.{Joined}
 use Rattle.projection.specs.declared.Projected.{Projected}
-use Rattle.parts.proofs.Sizes.{words-twice, words-twice-arms, merge-words, merge-words-arms}
+use Rattle.parts.proofs.Sizes.{words-twice, merge-words}
 use Rattle.parts.proofs.Words.{Stands, stands-slice}
 use Rattle.merge.proofs.Joins as join
 
@@ -23,13 +23,11 @@ use Rattle.merge.proofs.Joins as join
 abbrev pub answer : Joined → Projected
 answer j = record { ok = j .ok; at = j .at }
 
--- the two last parts, or arm lists, of the stack are replaced by their merge
-pub record Joins (work spare : List ℕ) (a b : ℕ) (work′ : List ℕ) (res : Joined) : Type 0 where
-  pub parts : (s : List ℕ) (P Q : Part) (e : ℕ) → Rising P → Rising Q → a ≡ length s → b ≡ length (s ++ codes P)
-      → Stack work e (s ++ codes P ++ codes Q) → Space ((size P + size Q) * 2) a work spare → Outcome codes s work′ (answer res) (merge P Q)
-  pub arms : (s : List ℕ) (ps qs : PartArms) (e : ℕ) → RisingArms ps → RisingArms qs → a ≡ length s → b ≡ length (s ++ codesArms ps)
-      → Stack work e (s ++ codesArms ps ++ codesArms qs) → Space (suc ((sizeArms ps + sizeArms qs) * 2)) a work spare
-      → Outcome codesArms s work′ (answer res) (mergeArms ps qs)
+-- the two last parts of the stack are replaced by their merge
+abbrev pub Joins : List ℕ → List ℕ → ℕ → ℕ → List ℕ → Joined → Type 0
+Joins work spare a b work′ res =
+    (s : List ℕ) (P Q : Part) (e : ℕ) → Rising P → Rising Q → a ≡ length s → b ≡ length (s ++ codes P)
+    → Stack work e (s ++ codes P ++ codes Q) → Space ((size P + size Q) * 2) a work spare → Outcome codes s work′ (answer res) (merge P Q)
 
 -- words between others
 pub between : (s ws rest work : List ℕ) (a : ℕ) → a ≡ length s → work ≡ s ++ ws ++ rest → Stands work a ws
@@ -45,13 +43,13 @@ stored work s a ws rest e is fits = record {
   height = omega (arith, length-append s ws);
 }
 
-outcome : {X : Type 0} (f : X → List ℕ) (work spare s rest : List ℕ) (a : ℕ) (o : Option X) (j : Join) {r : Joined} {work′ : List ℕ} → r ≡ j .res → work′ ≡ j .work
-    → a ≡ length s → work ≡ s ++ rest → ((x : X) → o ≡ some x → a + length (f x) ≤ length work) → join.Joins f work spare a o j → Outcome f s work′ (answer r) o
-outcome f work spare s rest a none j er ew e is fits h = fails (ap (λ (x : Joined). x .ok) er ∙ h)
-outcome f work spare s rest a (some x) j er ew e is fits h =
+outcome : {X : Type 0} (f : X → List ℕ) (work s rest : List ℕ) (a : ℕ) (o : Option X) (j : Join) {r : Joined} {work′ : List ℕ} → r ≡ j .res → work′ ≡ j .work
+    → a ≡ length s → work ≡ s ++ rest → ((x : X) → o ≡ some x → a + length (f x) ≤ length work) → join.Joins f work a o j → Outcome f s work′ (answer r) o
+outcome f work s rest a none j er ew e is fits h = fails (ap (λ (x : Joined). x .ok) er ∙ h)
+outcome f work s rest a (some x) j er ew e is fits h =
     let k = stored work s a (f x) rest e is (fits x refl) in
-    puts {x = x} (ap (λ (y : Joined). y .ok) er ∙ ap (λ (y : Join). y .res .ok) h)
-    (rw (ew, ap (λ (y : Join). y .work) h, er, ap (λ (y : Join). y .res .at) h) k)
+    let i = er ∙ h .0 in
+    puts {x = x} (ap (λ (y : Joined). y .ok) i) (rw (ew ∙ h .1, i) k)
 
 -- two lists of words, the last on the stack
 module _ (s us vs : List ℕ) {work : List ℕ} {a b e : ℕ} (at : a ≡ length s) (bt : b ≡ length (s ++ us)) (k : Stack work e (s ++ us ++ vs)) where
@@ -70,23 +68,12 @@ module _ (s us vs : List ℕ) {work : List ℕ} {a b e : ℕ} (at : a ≡ length
 pub joins-is : {work spare work′ spare′ : List ℕ} {a b : ℕ} {r : Joined}
     → (r ≡ joinOf 32768 work spare a b .res) × (work′ ≡ joinOf 32768 work spare a b .work) × (spare′ ≡ joinOf 32768 work spare a b .spare)
     → Joins work spare a b work′ r
-joins-is {work} {spare} {work′} {a = a} {b = b} (er, ew, es) = record {
-  parts = λ s P Q e p q at bt k sp.
-      let l = both-fit s (codes P) (codes Q) at bt k in
-      let m = words-twice P in
-      let n = words-twice Q in
-      let z = length-append s (codes P) in
-      outcome codes work spare s (codes P ++ codes Q ++ k .rest) a (merge P Q) (joinOf 32768 work spare a b) er ew at (below s (codes P) (codes Q) at bt k)
-      (λ M f. omega (arith, merge-words P Q f))
-      (join.join-is P Q 32768 work spare a b p q (first s (codes P) (codes Q) at bt k) (second s (codes P) (codes Q) at bt k) (omega (arith, sp .near)) (omega arith) (omega (arith, sp .near)) (omega (arith, sp .near))
-      (omega (arith, sp .spares)));
-  arms = λ s ps qs e p q at bt k sp.
-      let l = both-fit s (codesArms ps) (codesArms qs) at bt k in
-      let m = words-twice-arms ps in
-      let n = words-twice-arms qs in
-      let z = length-append s (codesArms ps) in
-      outcome codesArms work spare s (codesArms ps ++ codesArms qs ++ k .rest) a (mergeArms ps qs) (joinOf 32768 work spare a b) er ew at (below s (codesArms ps) (codesArms qs) at bt k)
-      (λ ms f. omega (arith, merge-words-arms ps qs f))
-      (join.join-is-arms ps qs 32768 work spare a b p q (first s (codesArms ps) (codesArms qs) at bt k) (second s (codesArms ps) (codesArms qs) at bt k) (omega (arith, sp .near)) (omega arith) (omega (arith, sp .near)) (omega (arith, sp .near))
-      (omega (arith, sp .spares)));
-}
+joins-is {work} {spare} {work′} {a = a} {b = b} (er, ew, es) s P Q e p q at bt k sp =
+    let l = both-fit s (codes P) (codes Q) at bt k in
+    let m = words-twice P in
+    let n = words-twice Q in
+    let z = length-append s (codes P) in
+    outcome codes work s (codes P ++ codes Q ++ k .rest) a (merge P Q) (joinOf 32768 work spare a b) er ew at (below s (codes P) (codes Q) at bt k)
+    (λ M f. omega (arith, merge-words P Q f))
+    (join.join-is P Q 32768 work spare a b p q (first s (codes P) (codes Q) at bt k) (second s (codes P) (codes Q) at bt k) (omega (arith, sp .near)) (omega arith)
+    (omega (arith, sp .near)) (omega (arith, sp .near)) (omega (arith, sp .spares)) l)

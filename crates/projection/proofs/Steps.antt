@@ -1,29 +1,35 @@
 -- The steps of the projection, one lemma for each way that a call returns. Assumes nothing.
 use Prim.Native.Nat.{ℕ, zero, suc, _+_, _*_, _<_, _≤_}
-use mathlib.Core.Bool.{Bool, true, false, _&&_, _||_, and-true}
+use mathlib.Core.Bool.{Bool, true, false, cond, _&&_, _||_, true≢false}
 use mathlib.Core.List.{List, [], _∷_, _++_, append-assoc}
 use mathlib.Core.Option.{Option, none, some, bind}
 use mathlib.Core.Path.{_≡_, refl, sym, _∙_, ap, subst}
 use native.Mathlib.Omega.{arith}
-use lib.ListN.{length, set, length-append}
+use lib.Dec.{leb, eqb}
+use lib.ListN.{length, getD, set, length-append}
 use lib.Seq.{set-at, append-snoc}
-use Rattle.table.specs.Tree.{Global, end, exchange, flight, loop, back, Arms, nil, arm, treeAt, chainAt}
-use Rattle.table.specs.Kept.{Good, g-exchange, g-loop, GoodArms, g-arm, rowsIn, rowsInArms}
-use Rattle.parts.specs.Part.{Part, p-loop, PartArms, p-nil, p-arm, insert, rising}
+use borrow.Author.Tests.{ne-eqb}
+use Rattle.words.specs.Rows.{word}
+use Rattle.table.specs.Tree.{Global, end, exchange, flight, loop, back, Arms, nil, arm}
+use Rattle.table.specs.Kept.{Good, g-exchange, g-loop, GoodArms, g-nil, g-arm, rowsIn, rowsInArms}
+use Rattle.parts.specs.Part.{Part, p-loop, PartArms, p-nil, p-arm, rising}
 use Rattle.parts.specs.Absent.{takesPart, leaves}
-use Rattle.parts.specs.Merge.{merge, mergeArms}
+use Rattle.parts.specs.Merge.{merge}
 use Rattle.parts.specs.Projection.{part, partArms, partExchange, mergeFrom, mergeAll}
-use Rattle.parts.specs.Layout.{size, sizeArms}
+use Rattle.parts.specs.Layout.{size}
 use Rattle.parts.specs.mirror.Codes.{code, codes, codesArms}
-use Rattle.parts.specs.mirror.Rising.{Rising, r-nil, r-arm, no-label}
-use Rattle.projection.specs.mirror.Projects.{SMALL, Small, s-exchange, s-loop, SmallArms, s-arm, Stack, Space, Pushed, Outcome, fails, puts, Planned, ArmIs, Projects, Owns, Folds}
+use Rattle.parts.specs.mirror.Rising.{Rising}
+use Rattle.parts.specs.mirror.Grows.{Grows, Chain, chain-last, chain-more, place, ordered}
+use Rattle.parts.proofs.Grown.{ordered-rows, ordered-parts}
+use Rattle.parts.proofs.Rising.{holds-some, merge-rising}
+use Rattle.parts.proofs.Sizes.{words-twice, merge-size}
+use Rattle.parts.proofs.Laws.{part-size, part-rising}
+use Rattle.chains.specs.mirror.Orders.{Listed, listed-none, listed-arm}
+use Rattle.merge.specs.declared.Joined.{Joined}
+use Rattle.projection.specs.mirror.Projects.{SMALL, Small, s-exchange, s-loop, SmallArms, s-nil, s-arm, Plain, plain-nil, plain-arm, Stack, Space, Pushed, Outcome, fails, puts, PlannedBy, Planned, Known, ArmRead, Projects, Owns, Behind, behind-none, behind-some, Folds}
 use Rattle.projection.specs.declared.Projected.{Projected}
 use Rattle.projection.specs.declared.Arm.{Arm}
-use Rattle.merge.specs.declared.Joined.{Joined}
-use Rattle.parts.proofs.Rising.{holds-some, Lacks, insert-is, rising-is, rising-labels, merge-rising}
-use Rattle.parts.proofs.Sizes.{words-twice, merge-size}
-use Rattle.projection.proofs.Join.{answer, Joins}
-use Rattle.parts.proofs.Laws.{rising-size, part-size, parts-size, part-rising, parts-rising, labels-kept}
+use Rattle.projection.proofs.Join.{Joins}
 
 -- ---- the stack
 
@@ -91,56 +97,148 @@ rows-positive (loop G) = omega arith
 rows-positive (back k) = omega arith
 
 -- a part of one word
-pub leaf-step : {r : ℕ} {t : List ℕ} {G : Global ℕ} {work work′ : List ℕ} (spare : List ℕ) {at w next left e : ℕ} → Planned 0 r t G w next left → Pushed work at w work′ e
-    → Projects r G work at spare work′ (record { ok = true; at = e })
-leaf-step {G} spare {at} {e} plan push = record {
-  gives = λ s g m k sp.
-      let (P, f, is) = plan .says g m in
+pub leaf-step : {r : ℕ} {t kept order : List ℕ} {i : ℕ} {work work′ : List ℕ} (spare : List ℕ) {at w next left e : ℕ} → Planned 0 r t kept order i w next
+    → Pushed work at w work′ e → Projects r t kept order left i work at spare work′ (record { ok = true; at = e })
+leaf-step spare {at} {e} plan push = record {
+  gives = λ G s o h f g m k sp.
+      let (P, f, is) = plan .says G o h m in
       outcome-is f (puts {x = P} refl (restack (ap (λ (y : List ℕ). s ++ y) (sym is)) (push .gives s k (omega (arith, sp .fits, rows-positive G)))));
 }
 
+-- no tree has no rows
+pub no-links : {r : ℕ} {t kept order : List ℕ} {i : ℕ} {work : List ℕ} (spare : List ℕ) {at left : ℕ} {res : Projected} → left ≡ 0
+    → Projects r t kept order left i work at spare work res
+no-links spare e = record { gives = λ G s o h f g m k sp. absurd (omega (arith, rows-positive G)) }
+
 -- a Loop around a body's part
-body-step : {r : ℕ} {B : Global ℕ} {work work′ work″ spare : List ℕ} {at e : ℕ} {a : Projected} → (takesPart r B || leaves 1 B) ≡ true
-    → Pushed work at (code 3 0) work′ e → length work′ ≡ length work → Projects r B work′ e spare work″ a → (s : List ℕ) → Good (loop B) → Small (loop B)
-    → Stack work at s → Space (rowsIn (loop B) * 2) at work spare → Outcome codes s work″ a (part r (loop B))
+body-step : {r : ℕ} {t kept order : List ℕ} {less i : ℕ} {B : Global ℕ} {work work′ work″ spare : List ℕ} {at e : ℕ} {a : Projected}
+    → (takesPart r B || leaves 1 B) ≡ true → Pushed work at (code 3 0) work′ e → length work′ ≡ length work → Projects r t kept order less i work′ e spare work″ a
+    → Known r t kept order → Grows t i B → (s : List ℕ) → rowsIn (loop B) ≤ suc less → Good (loop B) → Small (loop B) → Stack work at s
+    → Space (rowsIn (loop B) * 2) at work spare → Outcome codes s work″ a (part r (loop B))
 unfolding part rowsIn codes
-body-step takes push len rec s (g-loop g) (s-loop m) k sp =
+body-step {B = B} takes push len rec o h s f (g-loop g) (s-loop m) k sp =
     let k′ = push .gives s k (omega (arith, sp .fits)) in
     rw takes
     (outcome-under (λ P. some (p-loop P)) p-loop (λ P. refl) (λ P. refl)
-    (rec .gives (s ++ 3 ∷ []) g m k′ (space-within sp len refl (omega (arith, k .height, k′ .height, length-append s (3 ∷ []))) (omega arith))))
+    (rec .gives B (s ++ 3 ∷ []) o h (omega arith) g m k′ (space-within sp len refl (omega (arith, k .height, k′ .height, length-append s (3 ∷ []))) (omega arith))))
 
-pub loop-step : {r : ℕ} {t : List ℕ} {G : Global ℕ} {work work′ work″ spare : List ℕ} {at w next left e : ℕ} {a : Projected} → Planned 1 r t G w next left
-    → Pushed work at w work′ e → length work′ ≡ length work → Projects r (treeAt left t next) work′ e spare work″ a → Projects r G work at spare work″ a
-loop-step {r} {t} {G} {work} {work′} {work″} {spare} {at} {w} {next} {left} {e} {a} plan push len rec = record {
-  gives = λ s g m.
-      let (f, takes, is) = plan .says g m in
-      subst (λ (X : Global ℕ). Good X → Small X → Stack work at s → Space (rowsIn X * 2) at work spare → Outcome codes s work″ a (part r X)) (sym f)
-      (body-step takes (subst (λ (x : ℕ). Pushed work at x work′ e) is push) len rec s) g m;
+pub loop-step : {r : ℕ} {t kept order : List ℕ} {i left less : ℕ} {work work′ work″ spare : List ℕ} {at w next e : ℕ} {a : Projected} → left ≡ suc less
+    → Planned 1 r t kept order i w next → Pushed work at w work′ e → length work′ ≡ length work → Projects r t kept order less next work′ e spare work″ a
+    → Projects r t kept order left i work at spare work″ a
+loop-step {r} {less = less} {work = work} {work′} {work″} {spare} {at} {e = e} {a} el plan push len rec = record {
+  gives = λ G s o h f g m.
+      let (B, is, grows, takes, word-is) = plan .says G o h m in
+      subst (λ (X : Global ℕ). rowsIn X ≤ suc less → Good X → Small X → Stack work at s → Space (rowsIn X * 2) at work spare → Outcome codes s work″ a (part r X)) (sym is)
+      (body-step takes (subst (λ (x : ℕ). Pushed work at x work′ e) word-is push) len rec o grows s) (rw el at f) g m;
 }
+
+-- ---- the arms of an action of the role's own, in rising order
+
+place-plain : {l : ℕ} {G : Global ℕ} {cs : Arms ℕ} → l < SMALL → Good G → Small G → Plain cs → Plain (place l G cs)
+unfolding place
+place-plain h g m plain-nil = plain-arm h g m plain-nil
+place-plain {l} {G} h g m (plain-arm {l = k} {G = H} {cs = cs} i f n ps) = go (leb l k) (place-plain h g m ps)
+  where
+    go : (b : Bool) → Plain (place l G cs) → Plain (cond b (arm l G (arm k H cs)) (arm k H (place l G cs)))
+    go true q = plain-arm h g m (plain-arm i f n ps)
+    go false q = plain-arm i f n q
+
+ordered-plain : {cs : Arms ℕ} → GoodArms cs → SmallArms cs → Plain (ordered cs)
+unfolding ordered
+ordered-plain g-nil s-nil = plain-nil
+ordered-plain (g-arm d g gs) (s-arm x m ms) = place-plain x g m (ordered-plain gs ms)
+
+-- the parts of the arms in rising order are the arms' parts in rising order
+outcome-ordered : (o : Option PartArms) {s work : List ℕ} {a : Projected} → Outcome codesArms s work a (bind o (λ ps. some (rising ps)))
+    → Outcome (λ ps. codesArms (rising ps)) s work a o
+unfolding bind
+outcome-ordered none (fails h) = fails h
+outcome-ordered (some ps) (puts h k) = puts {x = ps} h k
 
 -- a Send or a Receive before its arms
-arms-step : {r p q : ℕ} {cs : Arms ℕ} (act : PartArms → Part) {work work′ work″ spare : List ℕ} {at w e : ℕ} {a : Projected}
+arms-step : {r p q : ℕ} {t kept order : List ℕ} {less i : ℕ} {cs : Arms ℕ} (act : PartArms → Part) {work work′ work″ spare : List ℕ} {at w e : ℕ} {a : Projected}
     → ((ps : PartArms) → partExchange r p q ps ≡ some (act (rising ps))) → ((ps : PartArms) → codes (act ps) ≡ w ∷ codesArms ps)
-    → Pushed work at w work′ e → length work′ ≡ length work → Owns r cs work′ e spare work″ a
-    → (s : List ℕ) → Good (exchange p q cs) → Small (exchange p q cs) → Stack work at s → Space (rowsIn (exchange p q cs) * 2) at work spare
-    → Outcome codes s work″ a (part r (exchange p q cs))
+    → Pushed work at w work′ e → length work′ ≡ length work → Owns r t kept order less i work′ e spare work″ a → Known r t kept order
+    → Listed t order i (ordered cs) → (s : List ℕ) → rowsIn (exchange p q cs) ≤ suc less → Good (exchange p q cs) → Small (exchange p q cs) → Stack work at s
+    → Space (rowsIn (exchange p q cs) * 2) at work spare → Outcome codes s work″ a (part r (exchange p q cs))
 unfolding part rowsIn
-arms-step {r} {p} {q} act {w} ex is push len rec s (g-exchange n o g) (s-exchange i j m) k sp =
+arms-step {r} {p} {q} {cs = cs} act {w = w} ex is push len rec o h s f (g-exchange n d g) (s-exchange i j m) k sp =
     let k′ = push .gives s k (omega (arith, sp .fits)) in
+    let rows = ordered-rows cs in
     outcome-under (λ ps. partExchange r p q ps) (λ ps. act (rising ps)) ex (λ ps. is (rising ps))
-    (rec .gives (s ++ w ∷ []) g m k′ (space-within sp len refl (omega (arith, k .height, k′ .height, length-append s (w ∷ []))) (omega arith)))
+    (outcome-ordered (partArms r cs) (outcome-is (sym (ordered-parts r cs))
+    (rec .gives (ordered cs) (s ++ w ∷ []) o h (omega arith) (ordered-plain g m) k′
+    (space-within sp len refl (omega (arith, k .height, k′ .height, length-append s (w ∷ []))) (omega arith)))))
 
-pub action-step : {r : ℕ} {t : List ℕ} {G : Global ℕ} {work work′ work″ spare : List ℕ} {at w next left e : ℕ} {a : Projected} → Planned 2 r t G w next left
-    → Pushed work at w work′ e → length work′ ≡ length work → Owns r (chainAt left t next) work′ e spare work″ a → Projects r G work at spare work″ a
-action-step {r} {work} {work″} {spare} {at} {a} plan push len rec = record {
-  gives = λ s g m.
-      let (p, q, act, f, ex, is) = plan .says g m in
-      subst (λ (X : Global ℕ). Good X → Small X → Stack work at s → Space (rowsIn X * 2) at work spare → Outcome codes s work″ a (part r X)) (sym f)
-      (arms-step act ex is push len rec s) g m;
+pub action-step : {r : ℕ} {t kept order : List ℕ} {i left less : ℕ} {work work′ work″ spare : List ℕ} {at w next e : ℕ} {a : Projected} → left ≡ suc less
+    → Planned 2 r t kept order i w next → Pushed work at w work′ e → length work′ ≡ length work → Owns r t kept order less next work′ e spare work″ a
+    → Projects r t kept order left i work at spare work″ a
+action-step {r} {less = less} {work = work} {work″ = work″} {spare} {at} {a = a} el plan push len rec = record {
+  gives = λ G s o h f g m.
+      let (p, q, cs, act, is, arms, ex, words) = plan .says G o h m in
+      subst (λ (X : Global ℕ). rowsIn X ≤ suc less → Good X → Small X → Stack work at s → Space (rowsIn X * 2) at work spare → Outcome codes s work″ a (part r X)) (sym is)
+      (arms-step act ex words push len rec o arms s) (rw el at f) g m;
 }
 
+-- none
+pub own-end : {r : ℕ} {t kept order : List ℕ} {i left : ℕ} {work work′ : List ℕ} (spare : List ℕ) {at e : ℕ} → (eqb i 0 || eqb left 0) ≡ true
+    → Pushed work at (code 1 0) work′ e → Owns r t kept order left i work at spare work′ (record { ok = true; at = e })
+unfolding rowsInArms partArms codesArms
+own-end {r} {t} {kept} {order} {i} {left} {work} {work′} spare {at} {e} stop push = record { gives = go i stop }
+  where
+    go : (i : ℕ) → (eqb i 0 || eqb left 0) ≡ true → (cs : Arms ℕ) (s : List ℕ) → Known r t kept order → Listed t order i cs → rowsInArms cs ≤ left → Plain cs
+        → Stack work at s → Space (suc (rowsInArms cs * 2)) at work spare → Outcome codesArms s work′ (record { ok = true; at = e }) (partArms r cs)
+    go i z cs s o listed-none f p k sp = puts {x = p-nil} refl (push .gives s k (omega (arith, sp .fits)))
+    go i z cs s o (listed-arm h l a b c g x) f p k sp =
+        absurd (true≢false (sym z ∙ rw (ne-eqb i 0 (λ y. omega arith), ne-eqb left 0 (λ y. omega arith))))
+
+-- one, and those behind it
+own-arm : {r l : ℕ} {t kept order : List ℕ} {less c n : ℕ} {G : Global ℕ} {cs : Arms ℕ} {work₀ work₁ work₂ work₃ spare₀ spare₁ : List ℕ} {at e : ℕ} {one rest : Projected}
+    → Pushed work₀ at (code 2 l) work₁ e → Projects r t kept order less c work₁ e spare₀ work₂ one → Owns r t kept order less n work₂ (one .at) spare₁ work₃ rest
+    → length work₁ ≡ length work₀ → length work₂ ≡ length work₀ → length spare₁ ≡ length spare₀
+    → Known r t kept order → Grows t c G → Listed t order n cs → (s : List ℕ) → rowsInArms (arm l G cs) ≤ suc less → Plain (arm l G cs) → Stack work₀ at s
+    → Space (suc (rowsInArms (arm l G cs) * 2)) at work₀ spare₀ → Outcome codesArms s work₃ (also (one .ok) rest) (partArms r (arm l G cs))
+unfolding partArms rowsInArms codesArms bind
+own-arm {r} {l} {G = G} {cs = cs} {rest = rest} push project own len₁ len₂ spare₁ o h x s f (plain-arm b g m ps) k sp =
+    let k₁ = push .gives s k (omega (arith, sp .fits)) in
+    let n₁ = length-append s (code 2 l ∷ []) in
+    outcome-then (λ P. bind (partArms r cs) (λ ps. some (p-arm l P ps))) rest
+    (project .gives G (s ++ code 2 l ∷ []) o h (omega arith) g m k₁ (space-within sp len₁ refl (omega (arith, k .height, k₁ .height)) (omega arith)))
+    (λ P e k₂.
+    let z = holds-some (part-size r G) e in
+    let n₂ = length-append (s ++ code 2 l ∷ []) (codes P) in
+    let n₃ = words-twice P in
+    outcome-behind l P (own .gives cs (s ++ code 2 l ∷ [] ++ codes P) o x (omega arith) ps k₂ (space-within sp len₂ spare₁ (omega (arith, k .height, k₂ .height)) (omega arith))))
+  where
+    outcome-behind : (l : ℕ) (P : Part) {q : Option PartArms} {s work : List ℕ} {a : Projected} → Outcome codesArms (s ++ code 2 l ∷ [] ++ codes P) work a q
+        → Outcome codesArms s work a (bind q (λ ps. some (p-arm l P ps)))
+    outcome-behind l P (fails h) = fails h
+    outcome-behind l P {s = s} (puts {x = ps} h k) =
+        puts {x = p-arm l P ps} h (restack (append-assoc (s ++ code 2 l ∷ []) (codes P) (codesArms ps) ∙ append-snoc s (code 2 l) (codes P ++ codesArms ps)) k)
+
+pub own-step : {r : ℕ} {t kept order : List ℕ} {i left less n : ℕ} {work₀ work₁ work₂ work₃ spare₀ spare₁ : List ℕ} {at e : ℕ} (c : Arm) {one rest : Projected}
+    → (eqb i 0 || eqb left 0) ≡ false → left ≡ suc less → ArmRead t i c → n ≡ getD order i 0
+    → Pushed work₀ at (c .word) work₁ e → Projects r t kept order less (c .cont) work₁ e spare₀ work₂ one → Owns r t kept order less n work₂ (one .at) spare₁ work₃ rest
+    → length work₁ ≡ length work₀ → length work₂ ≡ length work₀ → length spare₁ ≡ length spare₀
+    → Owns r t kept order left i work₀ at spare₀ work₃ (also (one .ok) rest)
+own-step {r} {t} {kept} {order} {i} {left} {less} {n} {work₀ = work₀} {work₁} {work₃ = work₃} {spare₀} {at = at} {e = e} c {one} {rest} on el is en push project own len₁ len₂ spare₁ =
+    record { gives = go i on is en }
+  where
+    go : (i : ℕ) → (eqb i 0 || eqb left 0) ≡ false → ArmRead t i c → n ≡ getD order i 0 → (cs : Arms ℕ) (s : List ℕ) → Known r t kept order → Listed t order i cs
+        → rowsInArms cs ≤ left → Plain cs → Stack work₀ at s → Space (suc (rowsInArms cs * 2)) at work₀ spare₀
+        → Outcome codesArms s work₃ (also (one .ok) rest) (partArms r cs)
+    go i z read en cs s o listed-none f p k sp = absurd (true≢false z)
+    go i z read en cs s o (listed-arm {l = l} h j a b d g x) f (plain-arm q y m ps) k sp =
+        own-arm (subst (λ (w : ℕ). Pushed work₀ at w work₁ e) (read .word-is (rw b q) ∙ ap (code 2) b) push) project own len₁ len₂ spare₁ o (rw (read .cont-is ∙ d) g) (rw en x) s
+        (rw el at f) (plain-arm q y m ps) k sp
+
 -- ---- an exchange of others
+
+-- the first arm of a chain, and the arms behind it
+first-arm : {t : List ℕ} {i : ℕ} {cs : Arms ℕ} → Chain t i cs
+    → (l : ℕ) × (G : Global ℕ) × (ds : Arms ℕ) × (cs ≡ arm l G ds) × Grows t (word t i 2) G × Behind t (word t i 3) ds
+first-arm (chain-last {l = l} {G = G} h w0 w1 w2 w3 g) = (l, G, nil, refl, rw w2 g, rw w3 behind-none)
+first-arm (chain-more {l = l} {G = G} {cs = cs} h w0 w1 w2 w3 m g c) = (l, G, cs, refl, rw w2 g, rw w3 (behind-some m c))
 
 merge-arms-is : (l : ℕ) (o : Option Part) (a : Option PartArms)
     → bind (bind o (λ P. bind a (λ ps. some (p-arm l P ps)))) (λ ps. mergeAll ps) ≡ bind o (λ P. bind a (λ ps. mergeFrom P ps))
@@ -155,180 +253,56 @@ bind-is none e = refl
 bind-is (some x) e = e x
 
 -- a plan with no case of its own is one for an exchange of others
-others : {r : ℕ} {t : List ℕ} {G : Global ℕ} {w next left : ℕ} (k : ℕ) → 2 < k → Planned k r t G w next left → Good G → Small G
-    → (p : ℕ) × (q : ℕ) × (G ≡ exchange p q (chainAt left t next)) × ((ps : PartArms) → partExchange r p q ps ≡ mergeAll ps)
-others zero l plan g m = absurd (omega arith)
-others (suc zero) l plan g m = absurd (omega arith)
-others (suc (suc zero)) l plan g m = absurd (omega arith)
-others (suc (suc (suc k))) l plan g m = plan .says g m
+others : (r : ℕ) (t order : List ℕ) (G : Global ℕ) (w next k : ℕ) → 2 < k → PlannedBy k r t order G w next
+    → (p : ℕ) × (q : ℕ) × (cs : Arms ℕ) × (G ≡ exchange p q cs) × Chain t next cs × ((ps : PartArms) → partExchange r p q ps ≡ mergeAll ps)
+others r t order G w next zero l plan = absurd (omega arith)
+others r t order G w next (suc zero) l plan = absurd (omega arith)
+others r t order G w next (suc (suc zero)) l plan = absurd (omega arith)
+others r t order G w next (suc (suc (suc k))) l plan = plan
 
-first-step : {r p q l : ℕ} {G : Global ℕ} {cs : Arms ℕ} {work work′ work″ spare spare′ : List ℕ} {at : ℕ} {a b : Projected}
+first-step : {r p q l : ℕ} {t kept order : List ℕ} {less c n : ℕ} {G : Global ℕ} {cs : Arms ℕ} {work work′ work″ spare spare′ : List ℕ} {at : ℕ} {a b : Projected}
     → ((ps : PartArms) → partExchange r p q ps ≡ mergeAll ps) → length work′ ≡ length work → length spare′ ≡ length spare
-    → Projects r G work at spare work′ a → Folds r cs work′ at (a .at) spare′ work″ b
-    → (s : List ℕ) → Good (exchange p q (arm l G cs)) → Small (exchange p q (arm l G cs)) → Stack work at s
+    → Projects r t kept order less c work at spare work′ a → Folds r t kept order less n work′ at (a .at) spare′ work″ b
+    → Known r t kept order → Grows t c G → Behind t n cs → (s : List ℕ) → rowsIn (exchange p q (arm l G cs)) ≤ suc less
+    → Good (exchange p q (arm l G cs)) → Small (exchange p q (arm l G cs)) → Stack work at s
     → Space (rowsIn (exchange p q (arm l G cs)) * 2) at work spare → Outcome codes s work″ (also (a .ok) b) (part r (exchange p q (arm l G cs)))
 unfolding part rowsIn
-first-step {r} {l} {G} {cs} {b} ex len len′ one rest s (g-exchange n o (g-arm d g gs)) (s-exchange i j (s-arm x m ms)) k sp =
+first-step {r} {l = l} {G = G} {cs} {b = b} ex len len′ one rest o h j s f (g-exchange n d (g-arm e g gs)) (s-exchange x y (s-arm z m ms)) k sp =
     outcome-is (bind-is (partArms r (arm l G cs)) ex ∙ merge-arms-is l (part r G) (partArms r cs))
-    (outcome-then (λ P. bind (partArms r cs) (λ ps. mergeFrom P ps)) b (one .gives s g m k (space-within sp refl refl (omega arith) (omega arith)))
+    (outcome-then (λ P. bind (partArms r cs) (λ ps. mergeFrom P ps)) b (one .gives G s o h (omega arith) g m k (space-within sp refl refl (omega arith) (omega arith)))
     (λ P e k′. let z = holds-some (part-size r G) e in
-    rest .gives s P gs ms (holds-some (part-rising r g) e) (k .height) k′ (space-within sp len len′ (omega arith) (omega arith))))
+    rest .gives cs s P o j (omega arith) gs ms (holds-some (part-rising r g) e) (k .height) k′ (space-within sp len len′ (omega arith) (omega arith))))
 
-pub others-step : {k r : ℕ} {t : List ℕ} {G : Global ℕ} {work work′ work″ spare spare′ : List ℕ} {at w next left : ℕ} (c : Arm) {a b : Projected} → 2 < k
-    → Planned k r t G w next left → c .there ≡ true → ArmIs (c .there) t (chainAt left t next) c → length work′ ≡ length work → length spare′ ≡ length spare
-    → Projects r (treeAt (c .left) t (c .cont)) work at spare work′ a → Folds r (chainAt (c .rest) t (c .next)) work′ at (a .at) spare′ work″ b
-    → Projects r G work at spare work″ (also (a .ok) b)
-others-step {k} {r} {t} {G} {work} {work″} {spare} {at} {next} {left} c {a} {b} l plan there is len len′ one rest = record {
-  gives = λ s g m.
-      let (p, q, f, ex) = others k l plan g m in
-      let (x, e, y) = subst (λ (z : Bool). ArmIs z t (chainAt left t next) c) there is .says in
-      subst (λ (X : Global ℕ). Good X → Small X → Stack work at s → Space (rowsIn X * 2) at work spare → Outcome codes s work″ (also (a .ok) b) (part r X))
-      (ap (λ (z : Arms ℕ). exchange p q z) (sym e) ∙ sym f) (first-step {p = p} {q = q} {l = x} ex len len′ one rest s) g m;
+pub others-step : {k r : ℕ} {t kept order : List ℕ} {i left less : ℕ} {work work′ work″ spare spare′ : List ℕ} {at w next : ℕ} (c : Arm) {a b : Projected} → left ≡ suc less → 2 < k
+    → Planned k r t kept order i w next → ArmRead t next c → length work′ ≡ length work → length spare′ ≡ length spare
+    → Projects r t kept order less (c .cont) work at spare work′ a → Folds r t kept order less (c .next) work′ at (a .at) spare′ work″ b
+    → Projects r t kept order left i work at spare work″ (also (a .ok) b)
+others-step {k} {r} {t} {kept} {order} {less = less} {work = work} {work″ = work″} {spare} {at = at} {w} {next} c {a} {b} el l plan read len len′ one rest = record {
+  gives = λ G s o h f g m.
+      let (p, q, cs, is, chain, ex) = others r t order G w next k l (plan .says G o h m) in
+      let (x, H, ds, e, grows, behind) = first-arm chain in
+      subst (λ (X : Global ℕ). rowsIn X ≤ suc less → Good X → Small X → Stack work at s → Space (rowsIn X * 2) at work spare → Outcome codes s work″ (also (a .ok) b) (part r X))
+      (ap (λ (z : Arms ℕ). exchange p q z) (sym e) ∙ sym is)
+      (first-step {p = p} {q = q} {l = x} ex len len′ one rest o (rw (read .cont-is) grows) (rw (read .next-is) behind) s) (rw el at f) g m;
 }
-
--- an exchange with no arm: of others it has no part
-no-arms : (r p q : ℕ) {s work : List ℕ} {at : ℕ} → ((ps : PartArms) → partExchange r p q ps ≡ mergeAll ps)
-    → Outcome codes s work (record { ok = false; at = at }) (part {A = ℕ} r (exchange p q nil))
-unfolding part partArms mergeAll bind
-no-arms r p q ex = outcome-is (ex p-nil) (fails refl)
-
-pub none-step : {k r : ℕ} {t : List ℕ} {G : Global ℕ} {work : List ℕ} (spare : List ℕ) {at w next left : ℕ} (c : Arm) → 2 < k
-    → Planned k r t G w next left → c .there ≡ false → ArmIs (c .there) t (chainAt left t next) c
-    → Projects r G work at spare work (record { ok = false; at = at })
-none-step {k} {r} {t} {work} spare {at} {next} {left} c l plan there is = record {
-  gives = λ s g m x sp.
-      let (p, q, f, ex) = others k l plan g m in
-      let e = subst (λ (z : Bool). ArmIs z t (chainAt left t next) c) there is .says in
-      subst (λ (X : Global ℕ). Outcome codes s work (record { ok = false; at = at }) (part r X)) (ap (λ (z : Arms ℕ). exchange p q z) (sym e) ∙ sym f) (no-arms r p q ex);
-}
-
--- ---- the arms of an action of the role's own
-
-no-arm : (r : ℕ) {e : ℕ} {s work : List ℕ} → Stack work e (s ++ 1 ∷ [])
-    → Outcome (λ ps. codesArms (rising ps)) s work (record { ok = true; at = e }) (partArms {A = ℕ} r nil)
-unfolding partArms rising codesArms
-no-arm r k = puts {x = p-nil} refl k
-
-pub own-end : {r : ℕ} {t : List ℕ} {cs : Arms ℕ} {work work′ : List ℕ} (spare : List ℕ) {at e : ℕ} (c : Arm) → c .there ≡ false → ArmIs (c .there) t cs c
-    → Pushed work at (code 1 0) work′ e → Owns r cs work at spare work′ (record { ok = true; at = e })
-own-end {r} {t} {cs} {work} {work′} spare {at} {e} c there is push = record {
-  gives = λ s g m k sp.
-      let f = subst (λ (z : Bool). ArmIs z t cs c) there is .says in
-      subst (λ (X : Arms ℕ). Outcome (λ ps. codesArms (rising ps)) s work′ (record { ok = true; at = e }) (partArms r X)) (sym f)
-      (no-arm r (push .gives s k (omega (arith, sp .fits))));
-}
-
-one-arm : (l : ℕ) (P : Part) (s : List ℕ) → s ++ code 2 l ∷ [] ++ codes P ++ code 1 0 ∷ [] ≡ s ++ codesArms (p-arm l P p-nil)
-unfolding codesArms
-one-arm l P s = append-assoc (s ++ code 2 l ∷ []) (codes P) (1 ∷ []) ∙ append-snoc s (code 2 l) (codes P ++ 1 ∷ [])
-
-insert-step : {l : ℕ} {P : Part} {qs : PartArms} {s work : List ℕ} {a : Projected} → Lacks l qs
-    → Outcome codesArms s work a (mergeArms (p-arm l P p-nil) (rising qs)) → Outcome (λ ps. codesArms (rising ps)) s work a (some (p-arm l P qs))
-unfolding rising
-insert-step {l} {P} {qs} {s} {work} {a} n h = go (subst (λ (o : Option PartArms). Outcome codesArms s work a o) (insert-is P (rising-labels n)) h)
-  where
-    go : Outcome codesArms s work a (some (insert l P (rising qs))) → Outcome (λ ps. codesArms (rising ps)) s work a (some (p-arm l P qs))
-    go (puts i k) = puts {x = p-arm l P qs} i k
-
-own-arm : {r l : ℕ} {G : Global ℕ} {cs : Arms ℕ} {work₀ work₁ work₂ work₃ work₄ work₅ spare₀ spare₁ spare₂ : List ℕ} {at e b : ℕ} {one rest : Projected} {all : Joined}
-    → Pushed work₀ at (code 2 l) work₁ e → Projects r G work₁ e spare₀ work₂ one → Pushed work₂ (one .at) (code 1 0) work₃ b
-    → Owns r cs work₃ b spare₁ work₄ rest → Joins work₄ spare₂ at b work₅ all
-    → length work₁ ≡ length work₀ → length work₂ ≡ length work₀ → length work₃ ≡ length work₀ → length work₄ ≡ length work₀
-    → length spare₁ ≡ length spare₀ → length spare₂ ≡ length spare₀
-    → (s : List ℕ) → GoodArms (arm l G cs) → SmallArms (arm l G cs) → Stack work₀ at s → Space (suc (rowsInArms (arm l G cs) * 2)) at work₀ spare₀
-    → Outcome (λ ps. codesArms (rising ps)) s work₅ (also (one .ok) (also (rest .ok) (answer all))) (partArms r (arm l G cs))
-unfolding partArms rowsInArms sizeArms
-own-arm {r} {l} {G} {cs} {work₂ = work₂} {rest = rest} {all = all} push₁ project push₂ own join len₁ len₂ len₃ len₄ spare₁ spare₂ s (g-arm d g gs) (s-arm x m ms) k sp =
-    let k₁ = push₁ .gives s k (omega (arith, sp .fits)) in
-    let n₁ = length-append s (code 2 l ∷ []) in
-    outcome-then (λ P. bind (partArms r cs) (λ ps. some (p-arm l P ps))) (also (rest .ok) (answer all))
-    (project .gives (s ++ code 2 l ∷ []) g m k₁ (space-within sp len₁ refl (omega (arith, k .height, k₁ .height)) (omega arith)))
-    (λ P e k₂.
-    let z = holds-some (part-size r G) e in
-    let n₂ = length-append (s ++ code 2 l ∷ []) (codes P) in
-    let n₃ = words-twice P in
-    let l₂ : _ < length work₂ = omega (arith, k .height, k₂ .height, sp .fits) in
-    let k₃ = push₂ .gives (s ++ code 2 l ∷ [] ++ codes P) k₂ l₂ in
-    let n₄ = length-append (s ++ code 2 l ∷ [] ++ codes P) (code 1 0 ∷ []) in
-    let k₄ = restack (one-arm l P s) k₃ in
-    outcome-then (λ ps. some (p-arm l P ps)) (answer all)
-    (own .gives (s ++ codesArms (p-arm l P p-nil)) gs ms k₄ (space-within sp len₃ spare₁ (omega (arith, k .height, k₃ .height)) (omega arith)))
-    (λ qs f k₅.
-    let y = holds-some (parts-size r cs) f in
-    let v = rising-size qs in
-    let sorted = holds-some (parts-rising r gs) f in
-    insert-step (holds-some (labels-kept r cs d) f)
-    (join .arms s (p-arm l P p-nil) (rising qs) (rest .at) (r-arm no-label (holds-some (part-rising r g) e) r-nil) (rising-is (sorted .distinct) (sorted .each))
-    (k .height) (k₄ .height) k₅ (space-within sp len₄ spare₂ (omega arith) (omega arith)))))
-
-small-label : {l : ℕ} {G : Global ℕ} {ds : Arms ℕ} → SmallArms (arm l G ds) → l < SMALL
-small-label (s-arm x m ms) = x
-
--- an arm with none behind it: its list is in order as it stands
-own-one : {r l : ℕ} {G : Global ℕ} {work₀ work₁ work₂ work₃ spare₀ : List ℕ} {at e b : ℕ} {one : Projected}
-    → Pushed work₀ at (code 2 l) work₁ e → Projects r G work₁ e spare₀ work₂ one → Pushed work₂ (one .at) (code 1 0) work₃ b
-    → length work₁ ≡ length work₀ → length work₂ ≡ length work₀
-    → (s : List ℕ) → GoodArms (arm l G nil) → SmallArms (arm l G nil) → Stack work₀ at s → Space (suc (rowsInArms (arm l G nil) * 2)) at work₀ spare₀
-    → Outcome (λ ps. codesArms (rising ps)) s work₃ (also (one .ok) (record { ok = true; at = b })) (partArms r (arm l G nil))
-unfolding partArms rowsInArms sizeArms rising
-own-one {r} {l} {G} {work₂ = work₂} {b = b} push₁ project push₂ len₁ len₂ s (g-arm d g gs) (s-arm x m ms) k sp =
-    let k₁ = push₁ .gives s k (omega (arith, sp .fits)) in
-    let n₁ = length-append s (code 2 l ∷ []) in
-    outcome-then (λ P. bind (partArms {A = ℕ} r nil) (λ ps. some (p-arm l P ps))) (record { ok = true; at = b })
-    (project .gives (s ++ code 2 l ∷ []) g m k₁ (space-within sp len₁ refl (omega (arith, k .height, k₁ .height)) (omega arith)))
-    (λ P e k₂.
-    let z = holds-some (part-size r G) e in
-    let n₂ = length-append (s ++ code 2 l ∷ []) (codes P) in
-    let n₃ = words-twice P in
-    let l₂ : _ < length work₂ = omega (arith, k .height, k₂ .height, sp .fits) in
-    let k₃ = push₂ .gives (s ++ code 2 l ∷ [] ++ codes P) k₂ l₂ in
-    puts {x = p-arm l P p-nil} refl (restack (one-arm l P s) k₃))
-
-pub own-last : {r : ℕ} {t : List ℕ} {cs : Arms ℕ} {work₀ work₁ work₂ work₃ spare₀ : List ℕ} {at e b : ℕ} (c : Arm) {one : Projected}
-    → c .there ≡ true → c .rest ≡ 0 → ArmIs (c .there) t cs c
-    → Pushed work₀ at (c .word) work₁ e → Projects r (treeAt (c .left) t (c .cont)) work₁ e spare₀ work₂ one → Pushed work₂ (one .at) (code 1 0) work₃ b
-    → length work₁ ≡ length work₀ → length work₂ ≡ length work₀
-    → Owns r cs work₀ at spare₀ work₃ (record { ok = one .ok; at = b })
-unfolding chainAt
-own-last {r} {t} {cs} {work₀} {work₁} {work₃ = work₃} {spare₀ = spare₀} {at = at} {e = e} {b = b} c {one} there ends is push₁ project push₂ len₁ len₂ =
-    let (l, f, w) = subst (λ (z : Bool). ArmIs z t cs c) there is .says in
-    let f′ : cs ≡ arm l (treeAt (c .left) t (c .cont)) nil = f ∙ ap (λ (n : ℕ). arm l (treeAt (c .left) t (c .cont)) (chainAt n t (c .next))) ends in
-    record {
-      gives = λ s. subst (λ (X : Arms ℕ). GoodArms X → SmallArms X → Stack work₀ at s → Space (suc (rowsInArms X * 2)) at work₀ spare₀
-          → Outcome (λ ps. codesArms (rising ps)) s work₃ (record { ok = one .ok; at = b }) (partArms r X)) (sym f′)
-          (λ g m k sp. subst (λ (o : Bool). Outcome (λ ps. codesArms (rising ps)) s work₃ (record { ok = o; at = b }) (partArms {A = ℕ} r (arm l (treeAt (c .left) t (c .cont)) nil)))
-          (and-true (one .ok)) (own-one (subst (λ (x : ℕ). Pushed work₀ at x work₁ e) (w (small-label m)) push₁) project push₂ len₁ len₂ s g m k sp));
-    }
-
-pub own-step : {r : ℕ} {t : List ℕ} {cs : Arms ℕ} {work₀ work₁ work₂ work₃ work₄ work₅ spare₀ spare₁ spare₂ : List ℕ} {at e b : ℕ} (c : Arm) {one rest : Projected} {all : Joined}
-    → c .there ≡ true → ArmIs (c .there) t cs c
-    → Pushed work₀ at (c .word) work₁ e → Projects r (treeAt (c .left) t (c .cont)) work₁ e spare₀ work₂ one → Pushed work₂ (one .at) (code 1 0) work₃ b
-    → Owns r (chainAt (c .rest) t (c .next)) work₃ b spare₁ work₄ rest → Joins work₄ spare₂ at b work₅ all
-    → length work₁ ≡ length work₀ → length work₂ ≡ length work₀ → length work₃ ≡ length work₀ → length work₄ ≡ length work₀
-    → length spare₁ ≡ length spare₀ → length spare₂ ≡ length spare₀
-    → Owns r cs work₀ at spare₀ work₅ (also (one .ok) (also (rest .ok) (answer all)))
-own-step {r} {t} {cs} {work₀} {work₁} {work₅ = work₅} {spare₀ = spare₀} {at = at} {e = e} c {one} {rest} {all} there is push₁ project push₂ own join len₁ len₂ len₃ len₄ spare₁ spare₂ =
-    let (l, f, w) = subst (λ (z : Bool). ArmIs z t cs c) there is .says in
-    record {
-      gives = λ s. subst (λ (X : Arms ℕ). GoodArms X → SmallArms X → Stack work₀ at s → Space (suc (rowsInArms X * 2)) at work₀ spare₀
-          → Outcome (λ ps. codesArms (rising ps)) s work₅ (also (one .ok) (also (rest .ok) (answer all))) (partArms r X)) (sym f)
-          (λ g m. own-arm (subst (λ (x : ℕ). Pushed work₀ at x work₁ e) (w (small-label m)) push₁) project push₂ own join len₁ len₂ len₃ len₄ spare₁ spare₂ s g m);
-    }
 
 -- ---- the parts of the arms of others, merged
 
-no-more : (r : ℕ) (P : Part) {e : ℕ} {s work : List ℕ} → Stack work e (s ++ codes P)
-    → Outcome codes s work (record { ok = true; at = e }) (bind (partArms {A = ℕ} r nil) (λ ps. mergeFrom P ps))
-unfolding partArms bind mergeFrom
-no-more r P k = puts {x = P} refl k
+pub fold-end : {r : ℕ} {t kept order : List ℕ} {i left : ℕ} {work : List ℕ} (spare : List ℕ) {at e : ℕ} → (eqb i 0 || eqb left 0) ≡ true
+    → Folds r t kept order left i work at e spare work (record { ok = true; at = e })
+unfolding rowsInArms partArms bind mergeFrom
+fold-end {r} {t} {kept} {order} {i} {left} {work} spare {at} {e} stop = record { gives = go i stop }
+  where
+    some-rows : {i : ℕ} {cs : Arms ℕ} → Chain t i cs → 0 < rowsInArms cs
+    some-rows (chain-last h w0 w1 w2 w3 g) = omega arith
+    some-rows (chain-more h w0 w1 w2 w3 m g c) = omega arith
 
-pub fold-end : {r : ℕ} {t : List ℕ} {cs : Arms ℕ} {work : List ℕ} (spare : List ℕ) {at e : ℕ} (c : Arm) → c .there ≡ false → ArmIs (c .there) t cs c
-    → Folds r cs work at e spare work (record { ok = true; at = e })
-fold-end {r} {t} {cs} {work} spare {e} c there is = record {
-  gives = λ s P g m i x k sp.
-      let f = subst (λ (z : Bool). ArmIs z t cs c) there is .says in
-      subst (λ (X : Arms ℕ). Outcome codes s work (record { ok = true; at = e }) (bind (partArms r X) (λ ps. mergeFrom P ps))) (sym f) (no-more r P k);
-}
+    go : (i : ℕ) → (eqb i 0 || eqb left 0) ≡ true → (cs : Arms ℕ) (s : List ℕ) (P : Part) → Known r t kept order → Behind t i cs → rowsInArms cs ≤ left → GoodArms cs
+        → SmallArms cs → Rising P → at ≡ length s → Stack work e (s ++ codes P) → Space ((size P + rowsInArms cs) * 2) at work spare
+        → Outcome codes s work (record { ok = true; at = e }) (bind (partArms r cs) (λ ps. mergeFrom P ps))
+    go i z cs s P o behind-none f g m u x k sp = puts {x = P} refl k
+    go i z cs s P o (behind-some h c) f g m u x k sp =
+        let l = some-rows c in absurd (true≢false (sym z ∙ rw (ne-eqb i 0 (λ y. omega arith), ne-eqb left 0 (λ y. omega arith))))
 
 merge-next-is : (l : ℕ) (M : Part) (o : Option Part) (a : Option PartArms)
     → bind (bind o (λ P. bind a (λ ps. some (p-arm l P ps)))) (λ ps. mergeFrom M ps) ≡ bind o (λ P. bind (merge M P) (λ N. bind a (λ ps. mergeFrom N ps)))
@@ -341,47 +315,62 @@ merge-next-is l M (some P) none = go (merge M P)
     go (some N) = refl
 merge-next-is l M (some P) (some ps) = refl
 
-fold-arm : {r l : ℕ} {G : Global ℕ} {cs : Arms ℕ} {work₀ work₁ work₂ work₃ spare₀ spare₁ spare₂ : List ℕ} {at e : ℕ} {one : Projected} {both : Joined} {rest : Projected}
-    → Projects r G work₀ e spare₀ work₁ one → Joins work₁ spare₁ at e work₂ both → Folds r cs work₂ at (both .at) spare₂ work₃ rest
+fold-arm : {r l : ℕ} {t kept order : List ℕ} {less c n : ℕ} {G : Global ℕ} {cs : Arms ℕ} {work₀ work₁ work₂ work₃ spare₀ spare₁ spare₂ : List ℕ} {at e : ℕ}
+    {one : Projected} {both : Joined} {rest : Projected}
+    → Projects r t kept order less c work₀ e spare₀ work₁ one → Joins work₁ spare₁ at e work₂ both → Folds r t kept order less n work₂ at (both .at) spare₂ work₃ rest
     → length work₁ ≡ length work₀ → length work₂ ≡ length work₀ → length spare₁ ≡ length spare₀ → length spare₂ ≡ length spare₀
-    → (s : List ℕ) (P : Part) → GoodArms (arm l G cs) → SmallArms (arm l G cs) → Rising P → at ≡ length s → Stack work₀ e (s ++ codes P)
-    → Space ((size P + rowsInArms (arm l G cs)) * 2) at work₀ spare₀
+    → Known r t kept order → Grows t c G → Behind t n cs → (s : List ℕ) (P : Part) → rowsInArms (arm l G cs) ≤ suc less → GoodArms (arm l G cs) → SmallArms (arm l G cs)
+    → Rising P → at ≡ length s → Stack work₀ e (s ++ codes P) → Space ((size P + rowsInArms (arm l G cs)) * 2) at work₀ spare₀
     → Outcome codes s work₃ (also (one .ok) (also (both .ok) rest)) (bind (partArms r (arm l G cs)) (λ ps. mergeFrom P ps))
 unfolding partArms rowsInArms
-fold-arm {r} {l} {G} {cs} {one} {both} {rest} project join fold len₁ len₂ spare₁ spare₂ s P (g-arm d g gs) (s-arm x m ms) i at-is k sp =
+fold-arm {r} {l} {G = G} {cs} {one = one} {both} {rest} project join fold len₁ len₂ spare₁ spare₂ o h j s P f (g-arm d g gs) (s-arm x m ms) i at-is k sp =
     let n₁ = length-append s (codes P) in
     let n₂ = words-twice P in
     outcome-is (merge-next-is l P (part r G) (partArms r cs))
     (outcome-then (λ Q. bind (merge P Q) (λ N. bind (partArms r cs) (λ ps. mergeFrom N ps))) (also (both .ok) rest)
-    (project .gives (s ++ codes P) g m k (space-within sp refl refl (omega (arith, k .height)) (omega arith)))
+    (project .gives G (s ++ codes P) o h (omega arith) g m k (space-within sp refl refl (omega (arith, k .height)) (omega arith)))
     (λ Q e k₁.
     let z = holds-some (part-size r G) e in
     let q = holds-some (part-rising r g) e in
     outcome-then (λ N. bind (partArms r cs) (λ ps. mergeFrom N ps)) rest
-    (join .parts s P Q (one .at) i q at-is (k .height) k₁ (space-within sp len₁ spare₁ (omega arith) (omega arith)))
-    (λ N f k₂.
-    let y = merge-size P Q f in
-    fold .gives s N gs ms (holds-some (merge-rising i q) f) at-is k₂ (space-within sp len₂ spare₂ (omega arith) (omega arith)))))
+    (join s P Q (one .at) i q at-is (k .height) k₁ (space-within sp len₁ spare₁ (omega arith) (omega arith)))
+    (λ N e k₂.
+    let y = merge-size P Q e in
+    fold .gives cs s N o j (omega arith) gs ms (holds-some (merge-rising i q) e) at-is k₂ (space-within sp len₂ spare₂ (omega arith) (omega arith)))))
 
-pub fold-step : {r : ℕ} {t : List ℕ} {cs : Arms ℕ} {work₀ work₁ work₂ work₃ spare₀ spare₁ spare₂ : List ℕ} {at e : ℕ} (c : Arm) {one : Projected} {both : Joined} {rest : Projected}
-    → c .there ≡ true → ArmIs (c .there) t cs c
-    → Projects r (treeAt (c .left) t (c .cont)) work₀ e spare₀ work₁ one → Joins work₁ spare₁ at e work₂ both
-    → Folds r (chainAt (c .rest) t (c .next)) work₂ at (both .at) spare₂ work₃ rest
+pub fold-step : {r : ℕ} {t kept order : List ℕ} {i left less : ℕ} {work₀ work₁ work₂ work₃ spare₀ spare₁ spare₂ : List ℕ} {at e : ℕ} (c : Arm)
+    {one : Projected} {both : Joined} {rest : Projected} → (eqb i 0 || eqb left 0) ≡ false → left ≡ suc less → ArmRead t i c
+    → Projects r t kept order less (c .cont) work₀ e spare₀ work₁ one → Joins work₁ spare₁ at e work₂ both
+    → Folds r t kept order less (c .next) work₂ at (both .at) spare₂ work₃ rest
     → length work₁ ≡ length work₀ → length work₂ ≡ length work₀ → length spare₁ ≡ length spare₀ → length spare₂ ≡ length spare₀
-    → Folds r cs work₀ at e spare₀ work₃ (also (one .ok) (also (both .ok) rest))
-fold-step {r} {t} {cs} {work₀} {work₃ = work₃} {spare₀ = spare₀} {at = at} {e = e} c {one} {both} {rest} there is project join fold len₁ len₂ spare₁ spare₂ =
-    let (l, f, w) = subst (λ (z : Bool). ArmIs z t cs c) there is .says in
-    record {
-      gives = λ s P. subst (λ (X : Arms ℕ). GoodArms X → SmallArms X → Rising P → at ≡ length s → Stack work₀ e (s ++ codes P)
-          → Space ((size P + rowsInArms X) * 2) at work₀ spare₀
-          → Outcome codes s work₃ (also (one .ok) (also (both .ok) rest)) (bind (partArms r X) (λ ps. mergeFrom P ps))) (sym f)
-          (fold-arm project join fold len₁ len₂ spare₁ spare₂ s P);
-    }
+    → Folds r t kept order left i work₀ at e spare₀ work₃ (also (one .ok) (also (both .ok) rest))
+fold-step {r} {t} {kept} {order} {i} {left} {less} {work₀} {work₃ = work₃} {spare₀} {at = at} {e} a {one} {both} {rest} on el is project join fold len₁ len₂ spare₁ spare₂ =
+    record { gives = go i on is }
+  where
+    go : (i : ℕ) → (eqb i 0 || eqb left 0) ≡ false → ArmRead t i a → (cs : Arms ℕ) (s : List ℕ) (P : Part) → Known r t kept order → Behind t i cs
+        → rowsInArms cs ≤ left → GoodArms cs → SmallArms cs → Rising P → at ≡ length s → Stack work₀ e (s ++ codes P)
+        → Space ((size P + rowsInArms cs) * 2) at work₀ spare₀
+        → Outcome codes s work₃ (also (one .ok) (also (both .ok) rest)) (bind (partArms r cs) (λ ps. mergeFrom P ps))
+    go i z read cs s P o behind-none f g m u x k sp = absurd (true≢false z)
+    go i z read cs s P o (behind-some h c) f g m u x k sp =
+        let (l, H, ds, e′, grows, behind) = first-arm c in
+        subst (λ (X : Arms ℕ). rowsInArms X ≤ suc less → GoodArms X → SmallArms X → Rising P → at ≡ length s → Stack work₀ e (s ++ codes P)
+        → Space ((size P + rowsInArms X) * 2) at work₀ spare₀ → Outcome codes s work₃ (also (one .ok) (also (both .ok) rest)) (bind (partArms r X) (λ ps. mergeFrom P ps)))
+        (sym e′) (fold-arm project join fold len₁ len₂ spare₁ spare₂ o (rw (read .cont-is) grows) (rw (read .next-is) behind) s P) (rw el at f) g m u x k sp
 
 -- ---- the case of a plan
 
-pub planned : {j k r : ℕ} {t : List ℕ} {G : Global ℕ} {w next left : ℕ} → j ≡ k → Planned j r t G w next left → Planned k r t G w next left
-planned {r = r} {t = t} {G = G} {w = w} {next = next} {left = left} e h = subst (λ (x : ℕ). Planned x r t G w next left) e h
+pub planned : {j k r : ℕ} {t kept order : List ℕ} {i w next : ℕ} → j ≡ k → Planned j r t kept order i w next → Planned k r t kept order i w next
+planned {r = r} {t = t} {kept} {order} {i} {w = w} {next = next} e h = subst (λ (x : ℕ). Planned x r t kept order i w next) e h
 
 pub more-than-two : (k : ℕ) → (k ≡ 0 → ⊥) → (k ≡ 1 → ⊥) → (k ≡ 2 → ⊥) → 2 < k
 more-than-two k p q r = omega arith
+
+-- where neither is 0
+pub some-left : (i left : ℕ) → (eqb i 0 || eqb left 0) ≡ false → 0 < left
+some-left i zero e = absurd (true≢false (last (eqb i 0) e))
+  where
+    last : (b : Bool) → (b || true) ≡ false → true ≡ false
+    last true e = e
+    last false e = e
+some-left i (suc n) e = omega arith

@@ -1,15 +1,15 @@
--- The parts of a table that the check accepts: the projection of row 0 finds each, and it fits the block. Assumes nothing.
-use Prim.Native.Nat.{ℕ, _+_, _-_, _*_, _≤_}
-use mathlib.Core.Bool.{Bool, true, false, true≢false}
-use mathlib.Core.List.{List, [], _++_, append-assoc, append-nil}
+-- The parts of a table that the check accepts, one after the other on the stack. Assumes nothing.
+use Prim.Native.Nat.{ℕ, _+_, _*_, _<_, _≤_}
+use mathlib.Core.Bool.{true, false, true≢false}
+use mathlib.Core.List.{List, [], _++_}
 use mathlib.Core.Option.{Option, none, some}
-use mathlib.Core.Path.{_≡_, refl, sym, _∙_, ap, subst}
+use mathlib.Core.Path.{_≡_, refl, sym, _∙_, ap}
+use native.Mathlib.Nat.{mul-le-mul-right, suc-mul}
+use native.Mathlib.Numerals.{add-one}
 use native.Mathlib.Omega.{arith}
-use lib.ListN.{length, take, drop, drop-of-length-le}
-use lib.Seq.{sets, sets-eq}
-use borrow.Rule.Slice.PartMut.{midOf, putMid, post-is, mid-len}
+use lib.ListN.{length, length-append}
 use Rattle.words.specs.Rows.{rowsOf}
-use Rattle.table.specs.Tree.{Global, Arms, treeAt, treeOf}
+use Rattle.table.specs.Tree.{Global, Arms, treeOf}
 use Rattle.table.specs.Kept.{Inside, i-end, i-exchange, i-loop, i-back, InsideArms, i-nil, i-arm, Static, t-end, t-exchange, t-loop, t-back, StaticArms, t-nil, t-arm, Good, Ranged, r-end, r-exchange, r-loop, r-back, RangedArms, r-nil, r-arm, rowsIn, rowsInArms}
 use Rattle.table.specs.Limits.{base}
 use Rattle.table.specs.Check.{accepted, checkOf}
@@ -19,15 +19,19 @@ use Rattle.table.proofs.Trees.{tree-good, tree-static, tree-ranged, tree-inside
 use Rattle.table.proofs.Weight.{tree-rows}
 use Rattle.parts.specs.Part.{Part}
 use Rattle.parts.specs.Projection.{partOf, present}
-use Rattle.parts.specs.Layout.{size, block, blockOf}
+use Rattle.parts.specs.Layout.{size}
 use Rattle.parts.specs.mirror.Codes.{codes}
-use Rattle.layout.specs.mirror.Lay as lay
-use Rattle.projection.specs.mirror.Projects.{SMALL, Small, s-end, s-exchange, s-loop, s-back, SmallArms, s-nil, s-arm, Outcome, fails, puts, Projects}
-use Rattle.projection.specs.declared.Projected.{Projected}
+use Rattle.parts.specs.mirror.Grows.{Grows}
+use Rattle.parts.specs.mirror.Stands.{Stands}
+use Rattle.parts.proofs.Grown.{tree-grows}
 use Rattle.parts.proofs.Rising.{holds-some}
-use Rattle.parts.proofs.Lengths.{length-block}
-use Rattle.projection.proofs.Join.{between}
 use Rattle.parts.proofs.Laws.{part-size}
+use Rattle.parts.proofs.Sizes.{words-twice}
+use Rattle.projection.specs.mirror.Projects.{SMALL, Small, s-end, s-exchange, s-loop, s-back, SmallArms, s-nil, s-arm, Stack, Outcome, fails, puts, Projects, wordsOf, partsWords, Prepared}
+use Rattle.projection.specs.declared.Projected.{Projected}
+use Rattle.projection.proofs.Join.{between}
+use Rattle.projection.proofs.Steps.{restack}
+use borrow.Author.Count.{below-none, below-more}
 
 -- a tree of so few rows has small depths
 mutual
@@ -46,84 +50,76 @@ mutual
       s-arm {l = l} (omega arith) (small-tree r m s h i (omega arith)) (small-arms r m ss hs is (omega arith))
 
 -- what the parts need of a table
-pub record Kept (t : List ℕ) : Type 0 where
-  pub good : Good {A = ℕ} (treeOf t)
-  pub small : Small {A = ℕ} (treeOf t)
-  pub fits : rowsIn {A = ℕ} (treeOf t) ≤ rowsOf t
-  pub few : rowsOf t ≤ 256
-  pub whole : rowsOf t * 4 ≡ length t
+record Sound (t : List ℕ) (roles : ℕ) : Type 0 where
+  grows : Grows t 0 (treeOf t)
+  good : Good {A = ℕ} (treeOf t)
+  small : Small {A = ℕ} (treeOf t)
+  fits : rowsIn {A = ℕ} (treeOf t) ≤ rowsOf t
+  most : roles ≤ 8
 
--- ---- the projection of row 0
-
-outcome-ok : {X : Type 0} {f : X → List ℕ} {s work : List ℕ} {r : Projected} {o : Option X} → Outcome f s work r o → (b : Option X → Bool) → b none ≡ false
-    → ((x : X) → b (some x) ≡ true) → r .ok ≡ b o
-outcome-ok (fails h) b e f = h ∙ sym e
-outcome-ok (puts {x} h k) b e f = h ∙ sym (f x)
-
--- a list stored over the whole of another
-sets-all : (vs l : List ℕ) → length vs ≡ length l → sets l 0 vs ≡ vs
-sets-all vs l e = sets-eq vs l 0 (omega arith) ∙ ap (λ (x : List ℕ). vs ++ x) (drop-of-length-le l {i = 0 + length vs} (omega arith)) ∙ append-nil vs
-
-module _ {t : List ℕ} (kept : Kept t) {r : ℕ} {work spare work′ : List ℕ} {res : Projected} (ew : length work ≡ 512) (es : length spare ≡ 513)
-    (h : Projects r (treeAt (rowsOf t) t 0) work 0 spare work′ res) where
-  row-0 : Outcome codes [] work′ res (partOf t r)
-  unfolding partOf treeOf
-  row-0 = h .gives [] (kept .good) (kept .small) (record { rest = work; is = refl; height = refl })
-      (record { fits = omega (arith, kept .fits, kept .few); spares = omega (arith, kept .fits, kept .few); near = omega arith })
-
-  pub finds : res .ok ≡ present (partOf t r)
-  finds = outcome-ok row-0 present refl (λ P. refl)
-
-  -- the part's words are there, and the block has room for its rows
-  ready : (P : Part) → partOf t r ≡ some P → (out loops : List ℕ) → length out ≡ length t → length loops ≡ 513 → lay.Ready P work′ 0 out 0 (rowsOf t) loops
-  unfolding partOf treeOf
-  ready P e out loops eo el = go (subst (λ (o : Option Part). Outcome codes [] work′ res o) e row-0)
-    where
-      rows : size P ≤ rowsOf t
-      rows = omega (arith, holds-some (part-size {A = ℕ} r (treeOf t)) e, kept .fits)
-
-      go : Outcome codes [] work′ res (some P) → lay.Ready P work′ 0 out 0 (rowsOf t) loops
-      go (puts h k) = record {
-        stands = between [] (codes P) (k .rest) work′ 0 refl (k .is);
-        rows-fit = rows;
-        loops-fit = omega (arith, kept .few);
-        block-fits = omega (arith, kept .whole);
-        codes-small = omega (arith, kept .few);
-        rows-small = omega (arith, kept .few);
-      }
-
-  -- the block in its place
-  pub writes : present (partOf t r) ≡ true → (room : List ℕ) (at : ℕ) {loops ys : List ℕ} → at + length t ≤ length room → length loops ≡ 513
-      → ((P : Part) → lay.Ready P work′ 0 (midOf at (at + length t - at) room) 0 (rowsOf t) loops
-      → ys ≡ sets (midOf at (at + length t - at) room) (0 * 4) (block (rowsOf t * 4) P))
-      → putMid at (at + length t - at) room ys ≡ take at room ++ blockOf t (partOf t r) ++ drop (at + length t) room
-  unfolding partOf treeOf blockOf
-  writes there room at {loops} {ys} fits el h = go (partOf t r) refl there
-    where
-      mid : length (midOf at (at + length t - at) room) ≡ length t
-      mid = omega (arith, mid-len at (at + length t) room fits)
-
-      go : (o : Option Part) → partOf t r ≡ o → present o ≡ true
-          → putMid at (at + length t - at) room ys ≡ take at room ++ blockOf t o ++ drop (at + length t) room
-      go none e f = absurd (true≢false (sym f))
-      go (some P) e f =
-          let out = midOf at (at + length t - at) room in
-          let rows = holds-some (part-size {A = ℕ} r (treeOf t)) e in
-          let n = length-block (length t) P (omega (arith, kept .fits, kept .whole)) in
-          let all : ys ≡ block (length t) P =
-          h P (ready P e out loops mid el) ∙ rw (kept .whole) (sets-all (block (length t) P) out (n ∙ sym mid)) in
-          rw (all, post-is at (at + length t) room (omega arith)) (sym (append-assoc (take at room) (block (length t) P) (drop (at + length t) room)))
-
--- ---- what the check gives
-
-pub table-kept : (t : List ℕ) (roles : ℕ) → checkOf base t roles ≡ accepted → Kept t
-table-kept t roles e =
+sound : (t : List ℕ) (roles : ℕ) → checkOf base t roles ≡ accepted → Sound t roles
+sound t roles e =
     let m = measured base t roles (obeys base t roles e .sizes) in
     let rows = tree-rows ℕ base t roles e in
     record {
+      grows = tree-grows base t roles e;
       good = tree-good base t roles e;
       small = small-tree (m .most) (omega arith) (tree-static base t roles e) (tree-ranged base t roles e) (tree-inside base t roles e) (omega (arith, m .few));
       fits = rows;
-      few = m .few;
-      whole = sym (m .whole);
+      most = m .most;
     }
+
+-- ---- one role after the other
+
+-- the parts of the roles below k are on the stack
+pub record Upto (t : List ℕ) (k : ℕ) (work : List ℕ) (at : ℕ) : Type 0 where
+  pub stack : Stack work at (partsWords t k)
+  pub low : at ≤ k * (rowsOf t * 2)
+  pub each : (j : ℕ) → j < k → present (partOf t j) ≡ true
+
+pub upto-none : (t work : List ℕ) → Upto t 0 work 0
+unfolding partsWords
+upto-none t work = record { stack = record { rest = work; is = refl; height = refl }; low = omega arith; each = below-none _ }
+
+module _ {t kept order : List ℕ} {roles k at : ℕ} {work₀ spare₀ work spare work′ : List ℕ} {res : Projected} (l : k < roles)
+    (p : Prepared t kept order roles work₀ spare₀) (lw : length work ≡ length work₀) (ls : length spare ≡ length spare₀) (u : Upto t k work at)
+    (h : Projects k t kept order (rowsOf t) 0 work at spare work′ res) where
+  -- the parts before this one and this one have room
+  room : at + rowsOf t * 2 ≤ length work
+  room = omega (arith, u .low, p .fits, suc-mul k (rowsOf t * 2), mul-le-mul-right (rowsOf t * 2) l)
+
+  found : Outcome codes (partsWords t k) work′ res (partOf t k)
+  unfolding partOf
+  found =
+      let s = sound t roles (p .checked) in
+      let m = s .most in
+      h .gives (treeOf t) (partsWords t k) (record { role = omega arith; keeps = p .keeps; orders = p .orders }) (s .grows) (s .fits) (s .good) (s .small) (u .stack)
+      (record { fits = omega (arith, room, s .fits); spares = omega (arith, p .spares, s .fits); near = omega (arith, p .near) })
+
+  pub lacking : res .ok ≡ false → present (partOf t k) ≡ false
+  lacking e = go (partOf t k) found
+    where
+      go : (o : Option Part) → Outcome codes (partsWords t k) work′ res o → present o ≡ false
+      go none (fails f) = refl
+      go (some P) (puts f s) = absurd (true≢false (sym f ∙ e))
+
+  rows : (P : Part) → partOf t k ≡ some P → size P ≤ rowsOf t
+  unfolding partOf
+  rows P q = omega (arith, holds-some (part-size {A = ℕ} k (treeOf t)) q, sound t roles (p .checked) .fits)
+
+  pub upto-more : res .ok ≡ true → Upto t (k + 1) work′ (res .at)
+  unfolding partsWords
+  upto-more e = go (partOf t k) refl found
+    where
+      go : (o : Option Part) → partOf t k ≡ o → Outcome codes (partsWords t k) work′ res o → Upto t (k + 1) work′ (res .at)
+      go none q (fails f) = absurd (true≢false (sym e ∙ f))
+      go (some P) q (puts f s) = record {
+        stack = rw (add-one k) (restack (ap (λ (x : List ℕ). partsWords t k ++ x) (sym (ap wordsOf q))) s);
+        low = rw (add-one k)
+            (omega (arith, u .low, u .stack .height, s .height, length-append (partsWords t k) (codes P), words-twice P, suc-mul k (rowsOf t * 2), rows P q));
+        each = below-more _ _ (u .each) (ap present q);
+      }
+
+-- every role has a part
+pub upto-all : {t : List ℕ} {k : ℕ} {work : List ℕ} {at : ℕ} → Upto t k work at → Stands work 0 (partsWords t k)
+upto-all {t} {k} {work} u = between [] (partsWords t k) (u .stack .rest) work 0 refl (u .stack .is)

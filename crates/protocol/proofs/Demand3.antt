@@ -17,9 +17,9 @@ use Rattle.table.proofs.Trees.{tree-static, tree-inside, tree-good, tree-ranged
 use Rattle.table.proofs.Weight.{tree-rows}
 use Rattle.parts.specs.Projection.{partOf}
 use Rattle.opening.specs.Opening.{openOf, blocks, roomOf}
-use Rattle.session.specs.Block.{partRow, blockRows, isHead}
-use Rattle.session.specs.Head.{head}
-use Rattle.session.specs.Tables.{rowGood}
+use Rattle.blocks.specs.Block.{partRow, blockRows, isHead}
+use Rattle.blocks.specs.Head.{head}
+use Rattle.blocks.specs.Tables.{rowGood}
 use Rattle.session.specs.State.{headOf}
 use Rattle.session.specs.Calls.{freshOf}
 use Rattle.protocol.specs.Engine.{ours}

@@ -16,7 +16,6 @@ use Rattle.table.specs.declared.Verdict.{Verdict}
 use Rattle.parts.specs.Projection.{partOf, present}
 use Rattle.opening.specs.Opening.{openOf, roomOf}
 use Rattle.session.specs.Calls.{freshOf}
-use Rattle.session.specs.Awaited.{awaitedOf}
 use Rattle.session.specs.declared.Session.{Session}
 use Rattle.protocol.specs.Engine.{Call, sends, receives, answerTo, over, ours}
 use Rattle.protocol.specs.Promised.{Code, Promises, codeAnswer, engineOf, Demand3OfCode}

@@ -20,7 +20,7 @@ use Rattle.opening.specs.Marked.{t1}
 use Rattle.opening.specs.Opening.{openOf, roomOf}
 use Rattle.protocol.specs.Engine.{Call, sends, receives, Reply, Engine, ours}
 use Rattle.protocol.specs.Steps.{Action, send, receive, here, Step, rule-1, rule-2, rule-3, rule-4, rule-5, each-arm}
-use Rattle.protocol.specs.Demand3.{after, no-call, accepted-call, Allows, HasCall, Finished, Follows, Conforms}
+use Rattle.protocol.specs.Demand3.{after, no-call, accepted-call, Follows, Conforms}
 use Rattle.protocol.specs.ShutOut.{refusing, single, still, once, counting, overcounting}
 use Rattle.protocol.proofs.Sessions.Followed.{empty-set}
 use Rattle.protocol.proofs.Demand3.{demand3-base}

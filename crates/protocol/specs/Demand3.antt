@@ -11,7 +11,7 @@ use Rattle.table.specs.Limits.{Limits}
 use Rattle.table.specs.Numbers.{ACCEPTED}
 use Rattle.table.specs.Tree.{Global, treeOf}
 use Rattle.opening.specs.Opening.{openOf, roomOf}
-use Rattle.session.specs.Numbers.{TABLES, STATE, STRAY}
+use Rattle.state.specs.Numbers.{TABLES, STATE, STRAY}
 use Rattle.protocol.specs.Engine.{Call, sends, receives, caller, Reply, Engine, ours}
 use Rattle.protocol.specs.Steps.{Action, send, receive, Step}
 

@@ -3,7 +3,7 @@ use Prim.Native.Nat.{ℕ}
 use mathlib.Core.List.{List}
 use mathlib.Core.Path.{_≡_}
 use Rattle.table.specs.Limits.{Limits}
-use Rattle.session.specs.Block.{End, partRow}
+use Rattle.blocks.specs.Block.{End, partRow}
 use Rattle.session.specs.State.{headOf, held}
 use Rattle.session.specs.Calls.{freshOf, sendOf, receiveOf}
 use Rattle.session.specs.Awaited.{awaitedOf}

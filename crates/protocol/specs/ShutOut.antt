@@ -2,8 +2,8 @@
 use Prim.Native.Nat.{ℕ, _+_}
 use mathlib.Core.Bool.{Bool, true, false}
 use Rattle.table.specs.Numbers.{ACCEPTED}
-use Rattle.session.specs.Numbers.{TURN}
-use Rattle.protocol.specs.Engine.{Call, Reply, RoleSet, Engine}
+use Rattle.state.specs.Numbers.{TURN}
+use Rattle.protocol.specs.Engine.{Call, Reply, Engine}
 
 -- a number, and no message
 abbrev pub bare : {S : Type 0} → ℕ → S → Reply S

@@ -3,7 +3,7 @@
 use Prim.Native.Nat.{ℕ}
 use mathlib.Core.Logic.{_≢_}
 use mathlib.Core.Path.{_≡_}
-use Rattle.table.specs.Tree.{Global, end, exchange, flight, loop, back, Arms, nil, arm}
+use Rattle.table.specs.Tree.{Global, exchange, flight, loop, Arms, nil, arm}
 use Rattle.protocol.specs.Unrolled.{unrolled}
 
 -- sender, receiver, label, payload

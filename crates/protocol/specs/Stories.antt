@@ -1,16 +1,14 @@
 -- Document 01, 'Marked tables': what it says of sessions over T5 and T9, by computation. Assumes nothing.
-use Prim.Native.Nat.{ℕ, zero, suc, _*_}
-use mathlib.Core.List.{List, [], _∷_, _++_}
+use Prim.Native.Nat.{ℕ}
+use mathlib.Core.List.{List, [], _∷_}
 use mathlib.Core.Path.{_≡_, refl}
 use native.Mathlib.Decide.{ℕ-discrete}
-use Rattle.words.specs.Below.{lowest, every, sum}
+use Rattle.words.specs.Below.{every, sum}
 use Rattle.table.specs.Limits.{base}
-use Rattle.table.specs.Rules.{breaks}
-use Rattle.table.specs.Tree.{treeOf}
 use Rattle.parts.specs.Merge.{merge}
 use Rattle.opening.specs.Opening.{blocks}
 use Rattle.opening.specs.Marked.{t5, t9}
-use Rattle.session.specs.Head.{chain, find}
+use Rattle.blocks.specs.Head.{chain, find}
 use Rattle.session.specs.Calls.{freshOf, sendOf, receiveOf}
 use Rattle.session.specs.Awaited.{awaitedOf}
 use Rattle.session.specs.declared.Session.{Session}

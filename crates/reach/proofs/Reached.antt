@@ -1,36 +1,45 @@
 -- What a row reaches, from what the rows that its links lead to reach. Assumes nothing.
-use Prim.Native.Nat.{ℕ, zero, suc, _+_, _-_, _<_, _≤_, max}
-use mathlib.Core.Bool.{Bool, true, false, not, _||_, or-false, true≢false}
-use mathlib.Core.Path.{_≡_, refl, sym, ap₂, _∙_}
+use Prim.Native.Nat.{ℕ, zero, suc, _+_, _-_, _≤_, _<_, max, min}
+use mathlib.Core.Bool.{Bool, true, false, cond, _||_, or-true, or-false}
 use mathlib.Core.List.{List}
+use mathlib.Core.Logic.{⊎-elim}
+use mathlib.Core.Path.{_≡_, refl, sym, ap₂, _∙_}
 use native.Mathlib.Omega.{arith}
-use native.Mathlib.Numerals.{sub-one}
+use lib.Bits.{bitOr}
 use lib.Dec.{ltb, leb, eqb}
-use lib.Bits.{bitAnd, bitOr, and-zero-r}
-use borrow.Author.Tests.{lt-ltb, le-ltb, le-leb, lt-leb, ltb-true, ltb-false}
-use Rattle.words.specs.Below.{setOf}
-use Rattle.words.specs.Rows.{word}
-use Rattle.table.specs.Rows.{rowOf}
-use Rattle.table.specs.Tree.{Global, end, exchange, loop, back, Arms, nil, arm, growTree, growNext, growArms, treeAt, chainAt}
+use borrow.Author.Tests.{lt-ltb, le-ltb, le-leb, lt-leb, ltb-true, ltb-false, leb-false}
+use Rattle.words.specs.Below.{one, setOf}
+use Rattle.words.specs.Rows.{word, rowsOf}
+use Rattle.table.specs.Above.{namer, over, above, loops}
+use Rattle.table.specs.Limits.{base}
+use Rattle.table.specs.Rows.{rowOf, row, isLoop}
+use Rattle.table.specs.Tree.{Global, end, exchange, loop, back, Arms, nil, arm}
+use Rattle.table.proofs.Accepted.{Obeys}
+use Rattle.table.proofs.Links.{exchange-link, loop-link, arm-link}
+use Rattle.table.proofs.Sizes.{measured}
 use Rattle.parts.specs.Absent.{takesPart, takesPartArms, leaves, leavesArms}
-use Rattle.reach.specs.mirror.Reach.{Reaches, TreeReach, ArmsReach, kindAt}
+use Rattle.parts.specs.mirror.Grows.{Grows, grows-end, grows-exchange, grows-loop, grows-back, Chain, chain-last, chain-more}
+use Rattle.reach.specs.mirror.Reach.{alone, nothing, nextOf, reachOf, stayOf}
 use Rattle.reach.specs.declared.Reach.{Reach}
-use Rattle.reach.proofs.Sets.{set-or, set-none, set-meets, set-past}
+use Rattle.reach.proofs.Sets.{set-or, set-none}
 
-abbrev pub Tree : Global ℕ → Reach → Type 0
-Tree G r = Reaches (λ k. takesPart k G) (λ d. leaves d G) r
+-- takes: the roles that take part. away: whether a Back leaves the d nearest Loops around
+pub record Reaches (takes : ℕ → Bool) (away : ℕ → Bool) (r : Reach) : Type 0 where
+  pub set : r .roles ≡ setOf takes (base .roles)
+  pub far : (d : ℕ) → away d ≡ ltb d (r .out)
 
-abbrev pub Chain : Arms ℕ → Reach → Type 0
-Chain cs r = Reaches (λ k. takesPartArms k cs) (λ d. leavesArms d cs) r
+-- r is what the tree reaches, and what the arms reach
+abbrev pub TreeReach : Global ℕ → Reach → Type 0
+TreeReach G r = Reaches (λ k. takesPart k G) (λ d. leaves d G) r
 
-abbrev nothing : Reach
-nothing = record { roles = 0; out = 0 }
+abbrev pub ArmsReach : Arms ℕ → Reach → Type 0
+ArmsReach cs r = Reaches (λ k. takesPartArms k cs) (λ d. leavesArms d cs) r
 
-pub reach-end : Tree end nothing
+pub reach-end : TreeReach end nothing
 unfolding takesPart leaves
 reach-end = record { set = sym (set-none 8); far = λ d. sym (le-ltb d 0 (omega arith)) }
 
-pub reach-nil : Chain nil nothing
+pub reach-nil : ArmsReach nil nothing
 unfolding takesPart leaves
 reach-nil = record { set = sym (set-none 8); far = λ d. sym (le-ltb d 0 (omega arith)) }
 
@@ -41,7 +50,7 @@ leb-next d k = go (ltb d (k + 1)) refl
     go true e = le-leb d k (omega (arith, ltb-true d (k + 1) e))
     go false e = lt-leb d k (omega (arith, ltb-false d (k + 1) e))
 
-pub reach-back : (k : ℕ) → Tree (back k) (record { roles = 0; out = k + 1 })
+pub reach-back : (k : ℕ) → TreeReach (back k) (record { roles = 0; out = k + 1 })
 unfolding takesPart leaves
 reach-back k = record { set = sym (set-none 8); far = λ d. leb-next d k }
 
@@ -52,7 +61,7 @@ ltb-less d o = go (ltb d (o - 1)) refl
     go true e = lt-ltb (suc d) o (omega (arith, ltb-true d (o - 1) e))
     go false e = le-ltb (suc d) o (omega (arith, ltb-false d (o - 1) e))
 
-pub reach-loop : (B : Global ℕ) (r : Reach) (o : ℕ) → Tree B r → o ≡ r .out - 1 → Tree (loop B) (record { roles = r .roles; out = o })
+pub reach-loop : (B : Global ℕ) (r : Reach) (o : ℕ) → TreeReach B r → o ≡ r .out - 1 → TreeReach (loop B) (record { roles = r .roles; out = o })
 unfolding takesPart leaves
 reach-loop B r o h e = record { set = h .set; far = λ d. rw e (h .far (suc d) ∙ ltb-less d (r .out)) }
 
@@ -60,8 +69,8 @@ reach-loop B r o h e = record { set = h .set; far = λ d. rw e (h .far (suc d) �
 join-set : (p q : ℕ → Bool) (a b : ℕ) → a ≡ setOf p 8 → b ≡ setOf q 8 → bitOr a b ≡ setOf (λ k. p k || q k) 8
 join-set p q a b ea eb = ap₂ bitOr ea eb ∙ set-or p q 8
 
-pub reach-exchange : (s q : ℕ) (cs : Arms ℕ) (r : Reach) (a b : ℕ) → Chain cs r → a ≡ setOf (λ k. eqb k s) 8 → b ≡ setOf (λ k. eqb k q) 8
-    → Tree (exchange s q cs) (record { roles = bitOr (bitOr a b) (r .roles); out = r .out })
+pub reach-exchange : (s q : ℕ) (cs : Arms ℕ) (r : Reach) (a b : ℕ) → ArmsReach cs r → a ≡ setOf (λ k. eqb k s) 8 → b ≡ setOf (λ k. eqb k q) 8
+    → TreeReach (exchange s q cs) (record { roles = bitOr (bitOr a b) (r .roles); out = r .out })
 unfolding takesPart leaves
 reach-exchange s q cs r a b h ea eb = record {
   set =
@@ -78,123 +87,79 @@ ltb-max d a b = go (ltb d a) (ltb d b) refl refl
     go false true e f = sym (lt-ltb d (max a b) (omega (arith, ltb-true d b f)))
     go false false e f = sym (le-ltb d (max a b) (omega (arith, ltb-false d a e, ltb-false d b f)))
 
-pub reach-arm : (l : ℕ) (G : Global ℕ) (cs : Arms ℕ) (r q : Reach) (o : ℕ) → Tree G r → Chain cs q → o ≡ max (r .out) (q .out)
-    → Chain (arm l G cs) (record { roles = bitOr (r .roles) (q .roles); out = o })
+pub reach-arm : (l : ℕ) (G : Global ℕ) (cs : Arms ℕ) (r q : Reach) (o : ℕ) → TreeReach G r → ArmsReach cs q → o ≡ max (r .out) (q .out)
+    → ArmsReach (arm l G cs) (record { roles = bitOr (r .roles) (q .roles); out = o })
 unfolding takesPart leaves
 reach-arm l G cs r q o h g e = record {
   set = join-set (λ k. takesPart k G) (λ k. takesPartArms k cs) (r .roles) (q .roles) (h .set) (g .set);
   far = λ d. rw e (ap₂ (λ (x y : Bool). x || y) (h .far d) (g .far d) ∙ ltb-max d (r .out) (q .out));
 }
 
--- the promise leaves one answer
-same-out : (a b : ℕ) → ((d : ℕ) → ltb d a ≡ ltb d b) → a ≤ b
-same-out a b h = go (ltb b a) refl
-  where
-    go : (x : Bool) → ltb b a ≡ x → a ≤ b
-    go true e = absurd (true≢false (sym e ∙ h b ∙ le-ltb b b (omega arith)))
-    go false e = ltb-false b a e
-
-pub reach-one : (p q : ℕ → Bool) (r r′ : Reach) → Reaches p q r → Reaches p q r′ → r ≡ r′
-reach-one p q r r′ h g =
-    let roles : r .roles ≡ r′ .roles = h .set ∙ sym (g .set) in
-    let up : r .out ≤ r′ .out = same-out (r .out) (r′ .out) (λ d. sym (h .far d) ∙ g .far d) in
-    let down : r′ .out ≤ r .out = same-out (r′ .out) (r .out) (λ d. sym (g .far d) ∙ h .far d) in
-    let out : r .out ≡ r′ .out = omega arith in
-    ap₂ (λ (x y : ℕ). record { roles = x; out = y }) roles out
-
--- what the sets say of one role: one out of range is in no set
-pub reach-stays : (G : Global ℕ) (r : Reach) (role a : ℕ) → Tree G r → a ≡ setOf (λ k. eqb k role) 8 → (8 ≤ role → takesPart role G ≡ false)
-    → (not (eqb (bitAnd (r .roles) a) 0) || ltb 1 (r .out)) ≡ (takesPart role G || leaves 1 G)
-reach-stays G r role a h ea far = go (ltb role 8) refl
-  where
-    go : (b : Bool) → ltb role 8 ≡ b → (not (eqb (bitAnd (r .roles) a) 0) || ltb 1 (r .out)) ≡ (takesPart role G || leaves 1 G)
-    go true e = rw (h .set, ea, set-meets (λ k. takesPart k G) role 8 (ltb-true role 8 e), ← (h .far 1))
-    go false e = let l = ltb-false role 8 e in rw (ea, set-past role 8 l, and-zero-r (r .roles), far l, ← (h .far 1))
-
 -- ---- the rows of a table
 
-pub kind-left : (n : ℕ) (t : List ℕ) (i : ℕ) → (n ≡ 0 → ⊥) → kindAt n t i ≡ word t i 0
-kind-left zero t i p = absurd (p refl)
-kind-left (suc n) t i p = refl
+-- no more Loops stand over a row than rows
+loops-few : (n : ℕ) (t : List ℕ) (i : ℕ) → loops t (over n t i) ≤ n
+unfolding loops over
+loops-few zero t i = omega arith
+loops-few (suc n) t zero = omega arith
+loops-few (suc n) t (suc i) = let p = namer t (suc i) in go (isLoop (row t p)) (loops t (over n t p)) (loops-few n t p)
+  where
+    go : (b : Bool) (m : ℕ) → m ≤ n → one b + m ≤ suc n
+    go true m h = omega arith
+    go false m h = omega arith
 
-pub tree-at : (n : ℕ) (t : List ℕ) (i : ℕ)
-    → treeAt {A =
-    ℕ} n t i ≡ growTree (λ j. treeAt (n - 1) t j) (λ j. chainAt (n - 1) t j) (rowOf (kindAt n t i) (word t i 1) (word t i 2) (word t i 3))
-unfolding treeAt growTree
-tree-at zero t i = refl
-tree-at (suc n) t i = rw sub-one
+-- a next arm that is there
+pub next-some : (at : ℕ → Reach) (n : ℕ) → 0 < n → nextOf at n ≡ at n
+next-some at zero h = absurd (omega arith)
+next-some at (suc n) h = refl
 
-pub chain-at : (n : ℕ) (t : List ℕ) (i : ℕ)
-    → chainAt {A =
-    ℕ} n t i ≡ growArms (λ j. treeAt (n - 1) t j) (λ j. chainAt (n - 1) t j) (rowOf (kindAt n t i) (word t i 1) (word t i 2) (word t i 3))
-unfolding treeAt growArms
-chain-at zero t i = refl
-chain-at (suc n) t i = rw sub-one
+-- a row of another kind
+pub other-row : (at : ℕ → Reach) (k : ℕ) → (k ≡ 1 → ⊥) → (k ≡ 2 → ⊥) → (k ≡ 3 → ⊥) → (k ≡ 4 → ⊥) → (a b c : ℕ) → reachOf at (rowOf k a b c) ≡ nothing
+other-row at zero p q r s a b c = refl
+other-row at (suc zero) p q r s a b c = absurd (p refl)
+other-row at (suc (suc zero)) p q r s a b c = absurd (q refl)
+other-row at (suc (suc (suc zero))) p q r s a b c = absurd (r refl)
+other-row at (suc (suc (suc (suc zero)))) p q r s a b c = absurd (s refl)
+other-row at (suc (suc (suc (suc (suc k))))) p q r s a b c = refl
 
--- a row whose kind is k, n links left to follow
-module _ (n : ℕ) (t : List ℕ) (i k : ℕ) (ek : k ≡ kindAt n t i) where
-  pub at-exchange : k ≡ 1 → (s q f : ℕ) → s ≡ word t i 1 → q ≡ word t i 2 → f ≡ word t i 3 → (r : Reach) → ArmsReach (n - 1) t f r
-      → (a b : ℕ) → a ≡ setOf (λ j. eqb j s) 8 → b ≡ setOf (λ j. eqb j q) 8 → TreeReach n t i (record { roles = bitOr (bitOr a b) (r .roles); out = r .out })
-  unfolding growTree
-  at-exchange e s q f es eq ef r h a b ea eb =
-      rw (tree-at n t i, ← ek, e, ← es, ← eq, ← ef) (reach-exchange s q (chainAt (n - 1) t f) r a b h ea eb)
+-- row i of a table that obeys the rules, where what the higher rows reach is known
+module _ (t : List ℕ) (n : ℕ) (o : Obeys base t n) (at : ℕ → Reach) (i : ℕ)
+    (tree : (j : ℕ) (G : Global ℕ) → i < j → Grows t j G → TreeReach G (at j))
+    (chain : (j : ℕ) (cs : Arms ℕ) → i < j → Chain t j cs → ArmsReach cs (at j)) where
+  depth-few : (d : ℕ) → i < rowsOf t → word t i 0 ≡ 4 → word t i 1 ≡ d → d < 256
+  depth-few d l k e =
+      let h : leb (loops t (above t i)) d ≡ false = rw (k, e) at (o .bound i l) in
+      let few = measured base t n (o .sizes) .few in
+      omega (arith, leb-false (loops t (above t i)) d h, loops-few (rowsOf t) t i)
 
-  pub at-loop : k ≡ 3 → (f : ℕ) → f ≡ word t i 1 → (r : Reach) → TreeReach (n - 1) t f r → (o : ℕ) → o ≡ r .out - 1
-      → TreeReach n t i (record { roles = r .roles; out = o })
-  unfolding growTree
-  at-loop e f ef r h o eo = rw (tree-at n t i, ← ek, e, ← ef) (reach-loop (treeAt (n - 1) t f) r o h eo)
+  pub row-tree : {G : Global ℕ} → Grows t i G → TreeReach G (reachOf at (row t i))
+  row-tree (grows-end l k) = rw k reach-end
+  row-tree (grows-exchange {p = p} {q = q} {f = f} {cs = cs} l k a b c g) =
+      let up = exchange-link t i (word t i 1) (word t i 2) f (rw (k, c) at (o .links i l)) .up in
+      rw (k, a, b, c) (reach-exchange p q cs (at f) (alone p) (alone q) (chain f cs up g) refl refl)
+  row-tree (grows-loop {b = b} {G = B} l k a g) =
+      let up = loop-link t i b (word t i 2) (word t i 3) (rw (k, a) at (o .links i l)) .up in
+      rw (k, a) (reach-loop B (at b) (at b .out - 1) (tree b B up g) refl)
+  row-tree (grows-back {d = d} l k a) =
+      let few = depth-few d l k a in
+      let e : min (d + 1) 65535 ≡ d + 1 = omega arith in
+      rw (k, a, e) (reach-back d)
 
-  pub at-back : k ≡ 4 → (d : ℕ) → d ≡ word t i 1 → TreeReach n t i (record { roles = 0; out = d + 1 })
-  unfolding growTree
-  at-back e d ed = rw (tree-at n t i, ← ek, e, ← ed) (reach-back d)
+  pub row-chain : {cs : Arms ℕ} → Chain t i cs → ArmsReach cs (reachOf at (row t i))
+  row-chain (chain-last {l = m} {c = c} {G = G} l k a b z g) =
+      let up = arm-link t i (word t i 1) c 0 (rw (k, b, z) at (o .links i l)) .1 .up in
+      rw (k, b, z) (reach-arm m G nil (at c) nothing (max (at c .out) 0) (tree c G up g) reach-nil refl)
+  row-chain (chain-more {l = m} {c = c} {n = f} {G = G} {cs = cs} l k a b e h g gs) =
+      let (_, u, v) = arm-link t i (word t i 1) c f (rw (k, b, e) at (o .links i l)) in
+      let up = ⊎-elim {C = i < f} (λ z. absurd (omega arith)) (λ x. x .up) v in
+      rw (k, b, e, next-some at f h) (reach-arm m G cs (at c) (at f) (max (at c .out) (at f .out)) (tree c G (u .up) g) (chain f cs up gs) refl)
 
-  pub other-tree : (k ≡ 1 → ⊥) → (k ≡ 3 → ⊥) → (k ≡ 4 → ⊥) → (a b c : ℕ) (tree : ℕ → Global ℕ) (chain : ℕ → Arms ℕ) → growTree tree chain (rowOf k a b c) ≡ end
-  unfolding growTree
-  other-tree p q r a b c tree chain = go k p q r
-    where
-      go : (m : ℕ) → (m ≡ 1 → ⊥) → (m ≡ 3 → ⊥) → (m ≡ 4 → ⊥) → growTree tree chain (rowOf m a b c) ≡ end
-      go zero p q r = refl
-      go (suc zero) p q r = absurd (p refl)
-      go (suc (suc zero)) p q r = refl
-      go (suc (suc (suc zero))) p q r = absurd (q refl)
-      go (suc (suc (suc (suc zero)))) p q r = absurd (r refl)
-      go (suc (suc (suc (suc (suc m))))) p q r = refl
+-- ---- the roles that stay in a Loop
 
-  pub at-other : (k ≡ 1 → ⊥) → (k ≡ 3 → ⊥) → (k ≡ 4 → ⊥) → TreeReach n t i nothing
-  at-other p q r = rw (tree-at n t i, ← ek, other-tree p q r _ _ _ _ _) reach-end
-
-  pub other-chain : (k ≡ 2 → ⊥) → (a b c : ℕ) (tree : ℕ → Global ℕ) (chain : ℕ → Arms ℕ) → growArms tree chain (rowOf k a b c) ≡ nil
-  unfolding growArms
-  other-chain p a b c tree chain = go k p
-    where
-      go : (m : ℕ) → (m ≡ 2 → ⊥) → growArms tree chain (rowOf m a b c) ≡ nil
-      go zero p = refl
-      go (suc zero) p = refl
-      go (suc (suc zero)) p = absurd (p refl)
-      go (suc (suc (suc zero))) p = refl
-      go (suc (suc (suc (suc zero)))) p = refl
-      go (suc (suc (suc (suc (suc m))))) p = refl
-
-  pub at-no-arm : (k ≡ 2 → ⊥) → ArmsReach n t i nothing
-  at-no-arm p = rw (chain-at n t i, ← ek, other-chain p _ _ _ _ _) reach-nil
-
-  module _ (e : k ≡ 2) (f g : ℕ) (ef : f ≡ word t i 2) (eg : g ≡ word t i 3) (r : Reach) (h : TreeReach (n - 1) t f r) where
-    arm-at : chainAt {A = ℕ} n t i ≡ arm (word t i 1) (treeAt (n - 1) t f) (growNext (λ j. chainAt (n - 1) t j) g)
-    unfolding growArms
-    arm-at = rw (chain-at n t i, ← ek, e, ← ef, ← eg)
-
-    pub at-last-arm : g ≡ 0 → ArmsReach n t i r
-    unfolding growNext takesPart leaves
-    at-last-arm z = rw (arm-at, z) (simp or-false h)
-
-    next-arms : (g ≡ 0 → ⊥) → growNext {A = ℕ} (λ j. chainAt (n - 1) t j) g ≡ chainAt (n - 1) t g
-    unfolding growNext
-    next-arms nz = go g nz
-      where
-        go : (m : ℕ) → (m ≡ 0 → ⊥) → growNext {A = ℕ} (λ j. chainAt (n - 1) t j) m ≡ chainAt (n - 1) t m
-        go zero p = absurd (p refl)
-        go (suc m) p = refl
-
-    pub at-arm : (g ≡ 0 → ⊥) → (q : Reach) → ArmsReach (n - 1) t g q → (o : ℕ) → o ≡ max (r .out) (q .out)
-        → ArmsReach n t i (record { roles = bitOr (r .roles) (q .roles); out = o })
-    at-arm nz q hq o eo = rw (arm-at, next-arms nz) (reach-arm (word t i 1) (treeAt (n - 1) t f) (chainAt (n - 1) t g) r q o h hq eo)
+pub loop-stay : (B : Global ℕ) (r : Reach) → TreeReach (loop B) r → stayOf (r .roles) (r .out) ≡ setOf (λ k. takesPart k B || leaves 1 B) 8
+unfolding takesPart leaves
+loop-stay B r h = rw (h .far 0) (go (ltb 0 (r .out)))
+  where
+    go : (b : Bool) → cond b (setOf (λ k. true) 8) (r .roles) ≡ setOf (λ k. takesPart k B || b) 8
+    go true = simp or-true
+    go false = simp or-false (h .set)

@@ -1,25 +1,17 @@
 -- Laws of a set of numbers kept as one number: its bound, union and intersection, the set of a single number. Assumes nothing.
-use Prim.Native.Nat.{ℕ, zero, suc, _+_, _*_, _^_, _<_, _≤_, _%_}
+use Prim.Native.Nat.{ℕ, zero, suc, _*_, _^_, _<_, _≤_, _%_}
 use mathlib.Core.Bool.{Bool, true, false, not, _&&_, _||_, and-true, and-false}
 use mathlib.Core.Path.{_≡_, refl, _∙_}
 use mathlib.Core.Logic.{⊎-elim}
 use native.Mathlib.Omega.{arith}
-use native.Mathlib.Nat.{pow-suc, one-mul, zero-mul, zero-add, add-zero, add-comm, eq-or-lt-of-le, le-of-suc-le-suc}
+use native.Mathlib.Nat.{one-mul, zero-mul, zero-add, add-zero, add-comm, eq-or-lt-of-le, le-of-suc-le-suc}
 use lib.Dec.{eqb}
 use lib.Bits.{bitAnd, bitOr, and-block, or-block}
 use lib.Pow.{pow-pos, shl-exact}
 use borrow.Author.Tests.{eq-eqb, ne-eqb}
 use Rattle.words.specs.Below.{sum, one, setOf}
+use Rattle.words.proofs.Sets.{set-lt}
 use Rattle.words.proofs.Below.{sum-zero}
-
-lt-step : (b : Bool) (n s : ℕ) → s < 2 ^ n → s + one b * 2 ^ n < 2 ^ suc n
-lt-step true n s h = omega (arith, pow-suc 2 n)
-lt-step false n s h = omega (arith, pow-suc 2 n)
-
-pub set-lt : (p : ℕ → Bool) (n : ℕ) → setOf p n < 2 ^ n
-unfolding sum
-set-lt p zero = omega arith
-set-lt p (suc n) = lt-step (p n) n (setOf p n) (set-lt p n)
 
 or-one : (a b : Bool) → bitOr (one a) (one b) ≡ one (a || b)
 or-one true true = refl
@@ -55,6 +47,11 @@ set-and p q (suc n) =
 pub set-none : (n : ℕ) → setOf (λ k. false) n ≡ 0
 set-none n = sum-zero (λ k. one false * 2 ^ k) n (λ k l. zero-mul (2 ^ k))
 
+-- every number below 8
+pub set-all : setOf (λ k. true) 8 ≡ 255
+unfolding sum
+set-all = refl
+
 set-below : (p : ℕ → Bool) (r n : ℕ) → n ≤ r → setOf (λ k. p k && eqb k r) n ≡ 0
 set-below p r n h = sum-zero (λ k. one (p k && eqb k r) * 2 ^ k) n (λ k l. rw (ne-eqb k r (λ e. omega arith), and-false) (zero-mul (2 ^ k)))
 
@@ -82,6 +79,6 @@ set-meets p r n h = rw (set-and p (λ k. eqb k r) n, set-at p r n h) (go (p r))
     go true = rw (ne-eqb (1 * 2 ^ r) 0 (λ e. omega (arith, pow-pos r)))
     go false = rw (zero-mul (2 ^ r))
 
--- one number below 8, as the code makes it in a word of 8 digits
-pub set-shifted : (r : ℕ) → r < 8 → 1 * 2 ^ r % 2 ^ 8 ≡ setOf (λ k. eqb k r) 8
-set-shifted r h = rw (shl-exact {a = 1} 1 r 8 (omega arith) (omega arith), set-single r 8 h) (one-mul (2 ^ r))
+-- one number below 8, as the code makes it in a word of 16 digits
+pub set-shifted : (r : ℕ) → r < 8 → 1 * 2 ^ r % 2 ^ 16 ≡ setOf (λ k. eqb k r) 8
+set-shifted r h = rw (shl-exact {a = 1} 1 r 16 (omega arith) (omega arith), set-single r 8 h) (one-mul (2 ^ r))

@@ -1,5 +1,5 @@
 -- An accepted call leaves a well-formed state. Assumes nothing.
-use Prim.Native.Nat.{ℕ, zero, suc, pred, _+_, _*_, _-_, _<_, _≤_}
+use Prim.Native.Nat.{ℕ, zero, suc, pred, _+_, _*_, _<_, _≤_}
 use mathlib.Core.Bool.{Bool, true, false, cond, _&&_, _||_, not, true≢false, or-true}
 use mathlib.Core.List.{List, []}
 use mathlib.Core.Logic.{_⊎_, inl, inr, ⊎-elim}
@@ -12,21 +12,24 @@ use borrow.Author.Tests.{lt-ltb, le-ltb, ltb-true, ltb-false, leb-true, le-leb, 
 use Rattle.words.specs.Below.{every}
 use Rattle.words.proofs.Below.{every-all, every-at}
 use Rattle.table.specs.Limits.{base}
-use Rattle.session.specs.Block.{partRow, blockRows, isHead, PartRow, End, Arm, Loop, Back, Send, Receive, Other, isArm}
-use Rattle.session.specs.State.{held, labelAt, payloadAt, nothing, headGood, slotGood, arePair, queueGood, stateGood, moved, pushed, taken, forward}
+use Rattle.blocks.specs.Block.{partRow, blockRows, isHead, PartRow, End, Arm, Loop, Back, Send, Receive, Other, isArm}
+use Rattle.blocks.specs.Head.{head}
+use Rattle.blocks.specs.Tables.{tablesGood, rowHolds}
+use Rattle.state.specs.State.{arePair, headGood, slotGood, queueGood}
+use Rattle.state.specs.declared.Turn.{Turn}
+use Rattle.state.specs.declared.Turn.the-variants.{Refused, To}
+use Rattle.state.specs.mirror.Judged.{sendJudged, receiveJudged}
+use Rattle.session.specs.State.{listed, held, labelAt, payloadAt, nothing, stateGood, moved, pushed, taken, forward}
 use Rattle.session.specs.declared.Session.{Session}
-use Rattle.session.specs.Head.{head}
-use Rattle.session.specs.Tables.{tablesGood, rowHolds}
 use Rattle.session.specs.Calls.{answers, unless, firstHeads, freshOf, sendOf, receiveOf}
-use Rattle.session.proofs.Mirrored.{head-at}
+use Rattle.blocks.proofs.Mirrored.{head-at}
+use Rattle.blocks.proofs.Good.{both, sized-bounds}
+use Rattle.blocks.proofs.Sound.{good-sized, row-holds, row-headed, head-in}
+use Rattle.state.proofs.Sound.{pair-in, queue-good, head-good, state-from}
 use Rattle.session.proofs.Accepted.{send-accepted, receive-accepted}
-use Rattle.session.proofs.Good.{both, sized-bounds}
-use Rattle.session.proofs.Sound.{good-sized, pair-in, row-holds, row-headed, head-in, queue-good, head-good}
-use Rattle.session.specs.declared.turns.Turn.{Turn}
-use Rattle.session.specs.declared.turns.Turn.the-variants.{Refused, To}
-use Rattle.session.specs.mirror.Judged.{sendJudged, receiveJudged}
-use Rattle.session.proofs.Acting.{length-first}
-use Rattle.session.proofs.Calling.{four-sets, four-forward, afterSend, after-send, afterReceive, after-receive}
+use Rattle.session.proofs.First.{length-first}
+use Rattle.session.proofs.Queues.{four-sets, four-forward}
+use Rattle.session.proofs.Calling.{afterSend, after-send, afterReceive, after-receive}
 
 -- the lengths that the state's type gives its arrays
 pub record Shaped (s : Session) : Type 0 where
@@ -49,15 +52,7 @@ same-or-not a b = decide (eqb a b) refl
     decide true e = inl (eqb-true a b e)
     decide false e = inr (eqb-false a b e)
 
--- ---- a state is good by its heads and its queues
-
-state-from : (ts : List ℕ) (roles : ℕ) (s : Session) → ((r : ℕ) → r < 8 → headGood ts roles s r ≡ true)
-    → ((p q : ℕ) → p < 8 → q < 8 → queueGood base roles s p q ≡ true) → stateGood base ts roles s ≡ true
-unfolding stateGood
-state-from ts roles s hs qs =
-    rw (every-all (headGood ts roles s) 8 hs, every-all (λ p. every (queueGood base roles s p) 8) 8 (λ p lp. every-all (queueGood base roles s p) 8 (λ q lq. qs p q lp lq)))
-
--- what a good queue says
+-- ---- what a good queue says
 record Queue (roles : ℕ) (s : Session) (p q : ℕ) : Type 0 where
   few : held base s p q ≤ 4
   there : (arePair roles p q || eqb (held base s p q) 0) ≡ true
@@ -65,43 +60,43 @@ record Queue (roles : ℕ) (s : Session) (p q : ℕ) : Type 0 where
   free : (k : ℕ) → k < 4 → held base s p q ≤ k → (labelAt base s p q k ≡ 0) × (payloadAt base s p q k ≡ 0)
 
 module _ (roles : ℕ) (s : Session) (p q : ℕ) where
-  queue-says : queueGood base roles s p q ≡ true → Queue roles s p q
+  queue-says : queueGood base roles (listed s) p q ≡ true → Queue roles s p q
   queue-says e =
-      let (ab, c) = both (leb (held base s p q) 4 && (arePair roles p q || eqb (held base s p q) 0)) (every (slotGood base s p q) 4) e in
+      let (ab, c) = both (leb (held base s p q) 4 && (arePair roles p q || eqb (held base s p q) 0)) (every (slotGood base (listed s) p q) 4) e in
       let (a, b) = both (leb (held base s p q) 4) (arePair roles p q || eqb (held base s p q) 0) ab in
       record {
         few = leb-true _ _ a;
         there = b;
-        used = λ k l m. let t : slotGood base s p q k ≡ true = every-at (slotGood base s p q) 4 k c l in ltb-true _ _ (rw (lt-ltb k (held base s p q) m) at t);
+        used = λ k l m. let t : slotGood base (listed s) p q k ≡ true = every-at (slotGood base (listed s) p q) 4 k c l in ltb-true _ _ (rw (lt-ltb k (held base s p q) m) at t);
         free = λ k l m.
-            let t : slotGood base s p q k ≡ true = every-at (slotGood base s p q) 4 k c l in
+            let t : slotGood base (listed s) p q k ≡ true = every-at (slotGood base (listed s) p q) 4 k c l in
             let u : (eqb (labelAt base s p q k) 0 && eqb (payloadAt base s p q k) 0) ≡ true = rw (le-ltb k (held base s p q) m) at t in
             let (x, y) = both (eqb (labelAt base s p q k) 0) (eqb (payloadAt base s p q k) 0) u in
             (eqb-true _ _ x, eqb-true _ _ y);
       }
 
-  slot-from : Queue roles s p q → (k : ℕ) → k < 4 → slotGood base s p q k ≡ true
+  slot-from : Queue roles s p q → (k : ℕ) → k < 4 → slotGood base (listed s) p q k ≡ true
   slot-from g k l =
       ⊎-elim
       (λ m. rw (lt-ltb k (held base s p q) m, lt-ltb (labelAt base s p q k) 64 (g .used k l m)))
       (λ m. let f = g .free k l m in rw (le-ltb k (held base s p q) m, f .0, f .1))
       (lt-or-le k (held base s p q))
 
-  queue-from : Queue roles s p q → queueGood base roles s p q ≡ true
-  queue-from g = rw (le-leb (held base s p q) 4 (g .few), g .there, every-all (slotGood base s p q) 4 (λ k l. slot-from g k l))
+  queue-from : Queue roles s p q → queueGood base roles (listed s) p q ≡ true
+  queue-from g = rw (le-leb (held base s p q) 4 (g .few), g .there, every-all (slotGood base (listed s) p q) 4 (λ k l. slot-from g k l))
 
 -- ---- heads
 
 module _ (ts : List ℕ) (roles : ℕ) (s : Session) (shaped : Shaped s) (good : stateGood base ts roles s ≡ true) (r h : ℕ) (present : r < roles) (low : r < 8)
     (inside : h < blockRows ts roles) (stands : isHead (partRow ts roles r h) ≡ true) where
   -- a role that moved to a head of its block, and the others where they stood
-  moved-heads : (t : ℕ) → t < 8 → (m : Session) → m .heads ≡ set (s .heads) r h → headGood ts roles m t ≡ true
+  moved-heads : (t : ℕ) → t < 8 → (m : Session) → m .heads ≡ set (s .heads) r h → headGood ts roles (listed m) t ≡ true
   moved-heads t l m e =
       ⊎-elim
       (λ (z : t ≡ r). let here : getD (m .heads) t 0 ≡ h = rw (e, z) (getD-set-same (s .heads) r h 0 (omega (arith, shaped .heads-are))) in
       rw (here, z, lt-ltb r roles present, lt-ltb h (blockRows ts roles) inside, stands))
       (λ z. let same : getD (m .heads) t 0 ≡ getD (s .heads) t 0 = rw e (getD-set-other (s .heads) r t h 0 z) in
-      rw same (head-good ts roles s good t l))
+      rw same (head-good ts roles (listed s) good t l))
       (same-or-not t r)
 
 -- ---- queues
@@ -275,16 +270,16 @@ module _ (ts : List ℕ) (roles p q : ℕ) (s : Session) (shaped : Shaped s) whe
       let (ip, iq, ne) = pair-in roles p q (t .two) in
       let holds = row-holds ts roles (t .stood .tables-good) p ip in
       let lands : h ≡ head ts roles p (t .sent .continuation) = t .sent .lands ∙ sym (head-at ts roles p (t .sent .continuation)) in
-      let inside : h < blockRows ts roles = rw lands (head-in ts roles p holds (t .sent .continuation) (t .reached .inside)) in
+      let inside : h < blockRows ts roles = rw lands (head-in base ts roles p holds (t .sent .continuation) (t .reached .inside)) in
       let stands : isHead (partRow ts roles p h) ≡ true = rw lands (row-headed ts roles (t .stood .tables-good) p ip (t .sent .continuation) (t .reached .inside) (t .reached .no-arm)) in
       rw is
-      (state-from ts roles (moved (pushed base s p q l v) p h)
+      (state-from ts roles (listed (moved (pushed base s p q l v) p h))
       (λ r lr. moved-heads ts roles s shaped good p h ip (t .p-low) inside stands r lr (moved (pushed base s p q l v) p h) refl)
       (λ x y lx ly. queue-from roles (moved (pushed base s p q l v) p h) x y
-      (let g = queue-says roles s x y (queue-good ts roles s good x y lx ly) in
+      (let g = queue-says roles s x y (queue-good ts roles (listed s) good x y lx ly) in
       ⊎-elim
       (λ z. rw (z .0, z .1)
-      (pushed-here roles s shaped p q l v h (t .p-low) (t .q-low) (t .sent .room) (t .two) (t .reached .low) (queue-says roles s p q (queue-good ts roles s good p q (t .p-low) (t .q-low)))))
+      (pushed-here roles s shaped p q l v h (t .p-low) (t .q-low) (t .sent .room) (t .two) (t .reached .low) (queue-says roles s p q (queue-good ts roles (listed s) good p q (t .p-low) (t .q-low)))))
       (λ n. pushed-other roles s shaped p q l v h (t .p-low) (t .q-low) (t .sent .room) x y lx ly (n (t .q-low) ly) g)
       (other-pair p q x y))))
 
@@ -296,16 +291,16 @@ module _ (ts : List ℕ) (roles p q : ℕ) (s : Session) (shaped : Shaped s) whe
       let (ip, iq, ne) = pair-in roles p q (t .two) in
       let holds = row-holds ts roles (t .stood .tables-good) q iq in
       let lands : h ≡ head ts roles q (t .received .continuation) = t .received .lands ∙ sym (head-at ts roles q (t .received .continuation)) in
-      let inside : h < blockRows ts roles = rw lands (head-in ts roles q holds (t .received .continuation) (t .reached .inside)) in
+      let inside : h < blockRows ts roles = rw lands (head-in base ts roles q holds (t .received .continuation) (t .reached .inside)) in
       let stands : isHead (partRow ts roles q h) ≡ true = rw lands (row-headed ts roles (t .stood .tables-good) q iq (t .received .continuation) (t .reached .inside) (t .reached .no-arm)) in
       rw is
-      (state-from ts roles (moved (taken base s p q) q h)
+      (state-from ts roles (listed (moved (taken base s p q) q h))
       (λ r lr. moved-heads ts roles s shaped good q h iq (t .q-low) inside stands r lr (moved (taken base s p q) q h) refl)
       (λ x y lx ly. queue-from roles (moved (taken base s p q) q h) x y
-      (let g = queue-says roles s x y (queue-good ts roles s good x y lx ly) in
+      (let g = queue-says roles s x y (queue-good ts roles (listed s) good x y lx ly) in
       ⊎-elim
       (λ z. rw (z .0, z .1)
-      (taken-here roles s shaped p q h (t .p-low) (t .q-low) (t .received .some-held) (t .two) (queue-says roles s p q (queue-good ts roles s good p q (t .p-low) (t .q-low)))))
+      (taken-here roles s shaped p q h (t .p-low) (t .q-low) (t .received .some-held) (t .two) (queue-says roles s p q (queue-good ts roles (listed s) good p q (t .p-low) (t .q-low)))))
       (λ n. taken-other roles s shaped p q h (t .p-low) (t .q-low) (t .received .some-held) x y lx ly (n (t .q-low) ly) g)
       (other-pair p q x y))))
 
@@ -316,7 +311,7 @@ zeros-at zero i = refl
 zeros-at (suc n) zero = refl
 zeros-at (suc n) (suc i) = zeros-at n i
 
-first-at : (ts : List ℕ) (roles n r : ℕ) → r < n → getD (firstHeads ts roles n) r 0 ≡ cond (ltb r roles) (head ts roles r 0) 0
+pub first-at : (ts : List ℕ) (roles n r : ℕ) → r < n → getD (firstHeads ts roles n) r 0 ≡ cond (ltb r roles) (head ts roles r 0) 0
 unfolding firstHeads
 first-at ts roles zero r l = absurd (omega arith)
 first-at ts roles (suc n) r l =
@@ -349,7 +344,7 @@ fresh-keeps ts roles e = decide (tablesGood base ts roles) refl e
         let b = sized-bounds ts roles (blockRows ts roles) (good-sized ts roles good) in
         let holds = row-holds ts roles good r m in
         let no-arm = row-zero ts roles r (partRow ts roles r 0) (holds 0 (b .2)) in
-        rw (lt-ltb r roles m, at, lt-ltb (head ts roles r 0) (blockRows ts roles) (head-in ts roles r holds 0 (b .2)), row-headed ts roles good r m 0 (b .2) no-arm))
+        rw (lt-ltb r roles m, at, lt-ltb (head ts roles r 0) (blockRows ts roles) (head-in base ts roles r holds 0 (b .2)), row-headed ts roles good r m 0 (b .2) no-arm))
         (λ m. let at : getD (firstHeads ts roles 8) r 0 ≡ 0 = first-at ts roles 8 r l ∙ rw (le-ltb r roles m) in rw (le-ltb r roles m, at))
         (lt-or-le r roles)
 
@@ -380,7 +375,7 @@ module _ (ts : List ℕ) (roles p q : ℕ) (s : Session) (shaped : Shaped s) whe
   }
 
   pub send-shaped : (l v : ℕ) → Shaped (sendOf base ts roles p q l v s .state)
-  send-shaped l v = rw (← (after-send ts roles p q s l v)) (shaped-send l v (sendJudged base ts roles p q l s))
+  send-shaped l v = rw (← (after-send ts roles p q s l v)) (shaped-send l v (sendJudged base ts roles p q l (listed s)))
 
   shaped-receive : (t : Turn) → Shaped (afterReceive ts roles p q s t .state)
   shaped-receive (Refused n) = shaped
@@ -392,7 +387,7 @@ module _ (ts : List ℕ) (roles p q : ℕ) (s : Session) (shaped : Shaped s) whe
   }
 
   pub receive-shaped : Shaped (receiveOf base ts roles p q s .state)
-  receive-shaped = rw (← (after-receive ts roles p q s)) (shaped-receive (receiveJudged base ts roles p q s))
+  receive-shaped = rw (← (after-receive ts roles p q s)) (shaped-receive (receiveJudged base ts roles p q (listed s)))
 
 pub fresh-shaped : (ts : List ℕ) (roles : ℕ) → Shaped (freshOf base ts roles .state)
 unfolding freshOf

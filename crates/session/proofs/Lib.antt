@@ -1,13 +1,6 @@
-pub mod Walk
-pub mod RowTests
-pub mod Good
-pub mod Mirrored
 pub mod Queues
-pub mod Turning
-pub mod Sound
-pub mod Judging
-pub mod Sets
-pub mod Acting
+pub mod First
+pub mod Answers
 pub mod Calling
 pub mod Promises
 pub mod Accepted

@@ -1,33 +1,59 @@
--- Laws of rule 13: a queue's slots, and the state by its arrays. Assumes nothing.
-use Prim.Native.Nat.{ℕ, _+_, _*_}
-use mathlib.Core.Bool.{Bool, _&&_, _||_}
-use mathlib.Core.List.{List}
+-- Laws of one pair's four slots. Assumes nothing.
+use Prim.Native.Nat.{ℕ, suc, _+_, _*_, _-_, _<_, _≤_}
+use mathlib.Core.List.{List, [], _∷_}
 use mathlib.Core.Path.{_≡_, ap}
-use lib.Dec.{eqb, leb}
-use lib.ListN.{getD}
-use Rattle.words.specs.Below.{every}
+use lib.ListN.{length, getD, set, take, drop}
+use lib.Seq.{sets, drop-cons}
+use native.Mathlib.Nat.{add-zero}
+use native.Mathlib.Numerals.{sub-one}
+use native.Mathlib.Omega.{arith}
 use Rattle.table.specs.Limits.{base}
-use Rattle.session.specs.Block.{blockRows}
-use Rattle.session.specs.State.{arePair, queueGood, stateGood}
-use Rattle.session.specs.mirror.State.{headGoodAt, slotHolds, four, queues, stateOf}
+use Rattle.session.specs.State.{forward}
+use Rattle.session.specs.declared.Session.{Session}
+use Rattle.session.specs.declared.Answer.{Answer}
+use Rattle.session.specs.mirror.Slots.{four, received}
 
--- what was read of the queue from p to q: how many it holds, its labels, its payloads, and what was found of each slot
-pub queue-read : (roles p q : ℕ) (counts labels payloads : List ℕ) {n : ℕ} {ls ps : List ℕ} {t a b c d : Bool}
-    → n ≡ getD counts (p * 8 + q) 0 → ls ≡ four labels ((p * 8 + q) * 4) → ps ≡ four payloads ((p * 8 + q) * 4) → t ≡ arePair roles p q
-    → a ≡ slotHolds base (getD counts (p * 8 + q) 0) 0 (getD ls 0 0) (getD ps 0 0)
-    → b ≡ slotHolds base (getD counts (p * 8 + q) 0) 1 (getD ls 1 0) (getD ps 1 0)
-    → c ≡ slotHolds base (getD counts (p * 8 + q) 0) 2 (getD ls 2 0) (getD ps 2 0)
-    → d ≡ slotHolds base (getD counts (p * 8 + q) 0) 3 (getD ls 3 0) (getD ps 3 0)
-    → (leb n 4 && (t || eqb (getD counts (p * 8 + q) 0) 0) && (a && b && c && d)) ≡ queueGood base roles (queues counts labels payloads) p q
-unfolding every
-queue-read roles p q counts labels payloads en el ep et ea eb ec ed = rw (ea, eb, ec, ed, en, el, ep, et)
+pub four-sets : (ws : List ℕ) (i a b c d : ℕ) → set (set (set (set ws i a) (i + 1) b) (i + 2) c) (i + 3) d ≡ sets ws (i + 0) (a ∷ b ∷ c ∷ d ∷ [])
+four-sets ws i a b c d =
+    let e1 : i + 1 ≡ suc i = omega arith in
+    let e2 : i + 2 ≡ suc (suc i) = omega arith in
+    let e3 : i + 3 ≡ suc (suc (suc i)) = omega arith in
+    rw (e1, e2, e3, add-zero i)
 
--- a head by where its block starts
-pub head-start : (ts : List ℕ) (roles rows p start at : ℕ) → start ≡ p * rows → headGoodAt ts roles rows start p at ≡ headGoodAt ts roles rows (p * rows) p at
-head-start ts roles rows p start at e = ap (λ (s : ℕ). headGoodAt ts roles rows s p at) e
+-- without the first: the rest come forward
+pub four-forward : (ws : List ℕ) (i : ℕ) → i + 4 ≤ length ws
+    → forward (take 4 (drop (i + 0) ws)) ≡ getD ws (i + 1) 0 ∷ getD ws (i + 2) 0 ∷ getD ws (i + 3) 0 ∷ 0 ∷ []
+four-forward ws i h =
+    let e1 : i + 1 ≡ suc i = omega arith in
+    let e2 : i + 2 ≡ suc (suc i) = omega arith in
+    let e3 : i + 3 ≡ suc (suc (suc i)) = omega arith in
+    rw (
+      add-zero i,
+      drop-cons ws i 0 (omega arith),
+      drop-cons ws (suc i) 0 (omega arith),
+      drop-cons ws (suc (suc i)) 0 (omega arith),
+      drop-cons ws (suc (suc (suc i))) 0 (omega arith),
+      e1,
+      e2,
+      e3,
+    )
 
-pub state-read : (ts : List ℕ) (roles rows : ℕ) (heads counts labels payloads : List ℕ) → rows ≡ blockRows ts roles
-    → (every (λ p. headGoodAt ts roles rows (p * rows) p (getD heads p 0)) 8 && every (λ p. every (λ q. queueGood base roles (queues counts labels payloads) p q) 8) 8)
-    ≡ stateGood base ts roles (stateOf heads counts labels payloads)
-unfolding stateGood
-state-read ts roles rows heads counts labels payloads e = rw e
+came-forward : (ws : List ℕ) (i : ℕ) {ls : List ℕ} → i + 4 ≤ length ws → ls ≡ four ws i
+    → sets ws (i + 0) (getD ls 1 0 ∷ getD ls 2 0 ∷ getD ls 3 0 ∷ 0 ∷ []) ≡ sets ws (i + 0) (forward (take 4 (drop (i + 0) ws)))
+came-forward ws i {ls} h e =
+    let same : (getD ls 1 0 ∷ getD ls 2 0 ∷ getD ls 3 0 ∷ 0 ∷ []) ≡ forward (take 4 (drop (i + 0) ws)) = rw (e, four-forward ws i h) in
+    ap (sets ws (i + 0)) same
+
+-- what an accepted receive leaves: ls and ps were read of the queue's slots, and lab and pay were written
+pub taken-read : (s : Session) (p q h : ℕ) {ls ps lab pay : List ℕ} → p < 8 → q < 8 → length (s .labels) ≡ 256 → length (s .payloads) ≡ 256
+    → ls ≡ four (s .labels) ((p * 8 + q) * 4) → ps ≡ four (s .payloads) ((p * 8 + q) * 4)
+    → lab ≡ sets (s .labels) ((p * 8 + q) * 4 + 0) (getD ls 1 0 ∷ getD ls 2 0 ∷ getD ls 3 0 ∷ 0 ∷ [])
+    → pay ≡ sets (s .payloads) ((p * 8 + q) * 4 + 0) (getD ps 1 0 ∷ getD ps 2 0 ∷ getD ps 3 0 ∷ 0 ∷ [])
+    → _≡_ {A = Answer} (record {
+      number = 0;
+      label = getD ls 0 0;
+      payload = getD ps 0 0;
+      state = record { heads = set (s .heads) q h; counts = set (s .counts) (p * 8 + q) (getD (s .counts) (p * 8 + q) 0 - 1); labels = lab; payloads = pay };
+    }) (received base s p q h)
+taken-read s p q h lp lq nl np el ep fl fp =
+    rw (fl, fp, came-forward (s .labels) ((p * 8 + q) * 4) (omega arith) el, came-forward (s .payloads) ((p * 8 + q) * 4) (omega arith) ep, el, ep, sub-one (getD (s .counts) (p * 8 + q) 0))

@@ -1,18 +1,18 @@
 -- Document 01, 'Sessions' and 'What comes back': fresh, send and receive, for every input. Assumes nothing.
-use Prim.Native.Nat.{ℕ, zero, suc, _+_}
-use mathlib.Core.Bool.{Bool, true, false, cond, not}
+use Prim.Native.Nat.{ℕ, zero, suc}
+use mathlib.Core.Bool.{Bool, cond, not}
 use mathlib.Core.List.{List, [], _∷_, _++_}
 use mathlib.Core.Option.{Option, none, some}
 use lib.Dec.{ltb, leb, eqb}
-use lib.ListN.{replicate}
-use Rattle.words.specs.Below.{every}
 use Rattle.table.specs.Limits.{Limits}
 use Rattle.table.specs.Numbers.{ACCEPTED}
-use Rattle.session.specs.Numbers.{TABLES, STATE, PARTY, TURN, LABEL, FULL, EMPTY, STRAY}
-use Rattle.session.specs.Block.{PartRow, End, Arm, Loop, Back, Send, Receive, Other, partRow}
-use Rattle.session.specs.Head.{head, armsOf, find, ArmAt}
-use Rattle.session.specs.Tables.{tablesGood}
-use Rattle.session.specs.State.{headOf, held, labelAt, payloadAt, nothing, arePair, stateGood, moved, pushed, taken}
+use Rattle.blocks.specs.Block.{PartRow, End, Arm, Loop, Back, Send, Receive, Other, partRow}
+use Rattle.blocks.specs.Head.{head, armsOf, find}
+use Rattle.blocks.specs.Tables.{tablesGood}
+use Rattle.state.specs.Numbers.{TABLES, STATE, PARTY, TURN, LABEL, FULL, EMPTY, STRAY}
+use Rattle.state.specs.State as lists
+use Rattle.state.specs.State.{arePair}
+use Rattle.session.specs.State.{headOf, held, labelAt, payloadAt, nothing, stateGood, moved, pushed, taken}
 use Rattle.session.specs.declared.Session.{Session}
 use Rattle.session.specs.declared.Answer.{Answer}
 
@@ -75,7 +75,7 @@ sendAt lim ts roles p q l v s Other = answers TURN s
 
 -- p sends the label l with the payload v to q
 unfoldable pub sendOf : Limits → List ℕ → ℕ → ℕ → ℕ → ℕ → ℕ → Session → Answer
-unfolding sendAt tablesGood stateGood
+unfolding sendAt tablesGood lists.stateGood
 sendOf lim ts roles p q l v s =
     standing lim ts roles p q s (sendAt lim ts roles p q l v s (partRow ts roles p (headOf s p)))
 
@@ -106,6 +106,6 @@ receiveAt lim ts roles p q s Other = answers TURN s
 
 -- q receives from p
 unfoldable pub receiveOf : Limits → List ℕ → ℕ → ℕ → ℕ → Session → Answer
-unfolding receiveAt tablesGood stateGood
+unfolding receiveAt tablesGood lists.stateGood
 receiveOf lim ts roles p q s =
     standing lim ts roles p q s (receiveAt lim ts roles p q s (partRow ts roles q (headOf s q)))

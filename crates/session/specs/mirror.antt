@@ -1,5 +1,1 @@
-pub mod Rows
-pub mod Tables
-pub mod State
-pub mod Turns
-pub mod Judged
+pub mod Slots

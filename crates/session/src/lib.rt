@@ -1,17 +1,19 @@
 // Sessions over opened tables: the state, and the answers of its calls.
+use blocks::tables;
+use state::Turn;
+use state::calls;
 use table::Table;
 
-mod calls;
-mod rows;
-mod state;
-mod tables;
-mod turns;
+mod heads;
+mod slots;
 
-use turns::Turn;
 ghost use mathlib.Core.Path.{_≡_};
+ghost use Prim.Native.Nat.{_<_};
 ghost use Rattle.table.specs.Limits.{base};
+ghost use Rattle.session.specs.State.{held, moved, pushed};
 ghost use Rattle.session.specs.Calls.{freshOf, sendOf, receiveOf};
 ghost use Rattle.session.specs.Awaited.{awaitedOf};
+ghost use Rattle.session.specs.mirror.Slots.{received};
 
 // Each role's head row, and for each ordered pair of roles (sender x ROLES + receiver) a queue of DEPTH slots, the oldest message in
 // the first.
@@ -27,7 +29,7 @@ impl Session {
 
     pub const PAIRS: usize = 64;
 
-    pub const DEPTH: usize = 4;
+    pub const DEPTH: usize = state::DEPTH;
 
     pub const SLOTS: usize = 256;
 
@@ -50,7 +52,7 @@ impl Session {
                 state: nothing,
             };
         }
-        let heads = calls::first_heads(tables, roles, rows);
+        let heads = heads::first_heads(tables, roles, rows);
         let state = Session {
             heads: heads,
             counts: [0u8; 64],
@@ -67,7 +69,7 @@ impl Session {
 
     // The sender sends the label with the payload to the receiver, and moves to the head of that arm's continuation.
     pub fn send(
-        mut self,
+        self,
         tables: &[u16],
         roles: usize,
         sender: usize,
@@ -95,26 +97,39 @@ impl Session {
                 payload: 0,
                 state: self,
             },
-            Turn::To(head) => {
-                let pair = sender * Session::ROLES + receiver;
-                let count = self.counts[pair];
-                let free = pair * Session::DEPTH + state::wide(count);
-                self.labels[free] = label as u8;
-                self.payloads[free] = payload;
-                self.counts[pair] = count + 1;
-                self.heads[sender] = head;
-                Answer {
-                    number: Answer::ACCEPTED,
-                    label: 0,
-                    payload: 0,
-                    state: self,
-                }
-            }
+            Turn::To(head) => Answer {
+                number: Answer::ACCEPTED,
+                label: 0,
+                payload: 0,
+                state: self.put(sender, receiver, label, payload, head),
+            },
         }
     }
 
+    // The message behind those that the queue holds, and its sender on that row.
+    fn put(
+        mut self,
+        sender: usize,
+        receiver: usize,
+        label: usize,
+        payload: u32,
+        head: u16,
+    ) -> Session
+        requires { ⌜ (sender < 8) × (receiver < 8) × (label < 64) × (held base self sender receiver < 4) ⌝ }
+        ensures { λ r. ⌜ r ≡ moved (pushed base self sender receiver label payload) sender head ⌝ }
+    {
+        let pair = sender * Session::ROLES + receiver;
+        let count = self.counts[pair];
+        let free = pair * Session::DEPTH + state::wide(count);
+        self.labels[free] = label as u8;
+        self.payloads[free] = payload;
+        self.counts[pair] = count + 1;
+        self.heads[sender] = head;
+        self
+    }
+
     // The receiver takes the oldest message from the sender, and moves to the head of that arm's continuation.
-    pub fn receive(mut self, tables: &[u16], roles: usize, sender: usize, receiver: usize) -> Answer
+    pub fn receive(self, tables: &[u16], roles: usize, sender: usize, receiver: usize) -> Answer
         ensures { λ r. ⌜ r ≡ receiveOf base (now (tables .entry)) roles sender receiver self ⌝ }
     {
         let turn = calls::judge_receive(
@@ -134,21 +149,27 @@ impl Session {
                 payload: 0,
                 state: self,
             },
-            Turn::To(head) => {
-                let pair = sender * Session::ROLES + receiver;
-                let ls = state::labels_of(&self.labels, pair);
-                let ps = state::payloads_of(&self.payloads, pair);
-                state::put_labels(&mut self.labels, pair, [ls[1], ls[2], ls[3], 0]);
-                state::put_payloads(&mut self.payloads, pair, [ps[1], ps[2], ps[3], 0]);
-                self.counts[pair] = self.counts[pair] - 1;
-                self.heads[receiver] = head;
-                Answer {
-                    number: Answer::ACCEPTED,
-                    label: ls[0],
-                    payload: ps[0],
-                    state: self,
-                }
-            }
+            Turn::To(head) => self.take(sender, receiver, head),
+        }
+    }
+
+    // The oldest message out of the queue, and its receiver on that row.
+    fn take(mut self, sender: usize, receiver: usize, head: u16) -> Answer
+        requires { ⌜ (sender < 8) × (receiver < 8) × (0 < held base self sender receiver) ⌝ }
+        ensures { λ r. ⌜ r ≡ received base self sender receiver head ⌝ }
+    {
+        let pair = sender * Session::ROLES + receiver;
+        let ls = slots::labels_of(&self.labels, pair);
+        let ps = slots::payloads_of(&self.payloads, pair);
+        slots::put_labels(&mut self.labels, pair, [ls[1], ls[2], ls[3], 0]);
+        slots::put_payloads(&mut self.payloads, pair, [ps[1], ps[2], ps[3], 0]);
+        self.counts[pair] = self.counts[pair] - 1;
+        self.heads[receiver] = head;
+        Answer {
+            number: Answer::ACCEPTED,
+            label: ls[0],
+            payload: ps[0],
+            state: self,
         }
     }
 
@@ -156,7 +177,7 @@ impl Session {
     pub fn awaited(self, tables: &[u16], roles: usize) -> Awaiting
         ensures { λ r. ⌜ r ≡ awaitedOf base (now (tables .entry)) roles self ⌝ }
     {
-        let ground = calls::standing(
+        let waiting = calls::awaited_roles(
             tables,
             roles,
             &self.heads,
@@ -164,29 +185,20 @@ impl Session {
             &self.labels,
             &self.payloads,
         );
-        if ground.number != Answer::ACCEPTED {
+        if waiting.number != Answer::ACCEPTED {
             return Awaiting {
-                number: ground.number,
+                number: waiting.number,
                 set: 0,
                 count: 0,
                 lowest: Awaiting::NOBODY,
                 state: self,
             };
         }
-        let set = calls::awaited_set(
-            tables,
-            roles,
-            ground.rows,
-            &self.heads,
-            &self.counts,
-            &self.labels,
-            &self.payloads,
-        );
         Awaiting {
             number: Answer::ACCEPTED,
-            set: set,
-            count: u8::count_ones(set),
-            lowest: u8::trailing_zeros(set),
+            set: waiting.set,
+            count: u8::count_ones(waiting.set),
+            lowest: u8::trailing_zeros(waiting.set),
             state: self,
         }
     }
@@ -210,23 +222,23 @@ pub struct Awaiting {
 }
 
 impl Answer {
-    pub const ACCEPTED: u8 = 0;
+    pub const ACCEPTED: u8 = Turn::ACCEPTED;
 
-    pub const TABLES: u8 = 12;
+    pub const TABLES: u8 = Turn::TABLES;
 
-    pub const STATE: u8 = 13;
+    pub const STATE: u8 = Turn::STATE;
 
-    pub const PARTY: u8 = 14;
+    pub const PARTY: u8 = Turn::PARTY;
 
-    pub const TURN: u8 = 15;
+    pub const TURN: u8 = Turn::TURN;
 
-    pub const LABEL: u8 = 16;
+    pub const LABEL: u8 = Turn::LABEL;
 
-    pub const FULL: u8 = 17;
+    pub const FULL: u8 = Turn::FULL;
 
-    pub const EMPTY: u8 = 18;
+    pub const EMPTY: u8 = Turn::EMPTY;
 
-    pub const STRAY: u8 = 19;
+    pub const STRAY: u8 = Turn::STRAY;
 }
 
 impl Awaiting {

@@ -1,22 +1,22 @@
 -- One induction over the rows of a table that obeys the rules: what holds of each row's tree where it holds of the trees below it. And the rows
 -- over a row: those over the row that names it, after that row. Assumes nothing.
-use Prim.Native.Nat.{ℕ, zero, suc, _+_, _-_, _≤_, _<_}
+use Prim.Native.Nat.{ℕ, zero, suc, _+_, _≤_, _<_}
 use mathlib.Core.Bool.{Bool, true, false, true≢false}
-use mathlib.Core.List.{List, [], _∷_}
+use mathlib.Core.List.{List, _∷_}
 use mathlib.Core.Logic.{⊎-elim}
 use mathlib.Core.Path.{_≡_, refl, sym, _∙_, ap}
 use native.Mathlib.Omega.{arith}
 use Rattle.words.specs.Rows.{rowsOf, word}
 use Rattle.table.specs.Limits.{Limits}
 use Rattle.table.specs.Rows.{Row, End, Exchange, Arm, Loop, Back, Other, row, isArm, links}
-use Rattle.table.specs.Above.{times, namer, over, above}
+use Rattle.table.specs.Above.{times, namer, above}
 use Rattle.table.specs.Tree.{Global, end, exchange, loop, back, Arms, nil, arm, growTree, growArms, growNext, treeAt, chainAt, treeOf}
-use Rattle.table.specs.mirror.Names.{nearLink, farLink}
+use Rattle.table.specs.mirror.Names.{nearLink, farLink, Rising}
 use Rattle.table.proofs.Accepted.{Obeys}
-use Rattle.table.proofs.Links.{Link, exchange-link, arm-link, loop-link, named-once, namer-is, namer-names, near-named, far-named, named-by, leads}
+use Rattle.table.proofs.Links.{Link, exchange-link, arm-link, loop-link, named-once, namer-is, near-named, far-named, rising}
 use Rattle.table.proofs.Rows.{arm-row}
 use Rattle.table.proofs.Sizes.{measured}
-use Rattle.table.proofs.Walk.{over-more}
+use Rattle.table.proofs.Walk.{above-more}
 
 -- what has to be shown of each kind of row, for P of a row and its tree, and Q of an Arm and the arms from it on
 pub record Cases {A : Type 0} (t : List ℕ) (P : ℕ → Global A → Type 0) (Q : ℕ → Arms A → Type 0) : Type 0 where
@@ -100,43 +100,14 @@ module _ {A : Type 0} (lim : Limits) (t : List ℕ) (roles : ℕ) (o : Obeys lim
 
 -- ---- the rows over a row
 
-pub over-zero : (n : ℕ) (t : List ℕ) → over n t 0 ≡ []
-unfolding over
-over-zero zero t = refl
-over-zero (suc n) t = refl
-
 module _ (lim : Limits) (t : List ℕ) (roles : ℕ) (o : Obeys lim t roles) where
-  -- every link of a row goes to a higher row inside the table
-  pub links-up : (i j : ℕ) → i < rowsOf t → 0 < j → 0 < times j (links (row t i)) → (i < j) × (j < rowsOf t)
-  links-up i j l h n = leads t i j (row t i) h (o .links i l) (named-by j (row t i) h n)
-
-  pub namer-below : (i : ℕ) → 0 < i → i < rowsOf t → (namer t i < rowsOf t) × (namer t i < i)
-  namer-below i h l =
-      let (p, n) = namer-names t i (named-once t i h (o .once i l)) in
-      (p, links-up (namer t i) i p h n .0)
-
-  -- more steps than rows add nothing
-  over-enough : (n m i : ℕ) → i < rowsOf t → i ≤ n → i ≤ m → over n t i ≡ over m t i
-  unfolding over
-  over-enough zero m zero l a b = sym (over-zero m t)
-  over-enough zero m (suc i) l a b = absurd (omega arith)
-  over-enough (suc n) m zero l a b = sym (over-zero m t)
-  over-enough (suc n) m (suc i) l a b =
-      let (p, u) = namer-below (suc i) (omega arith) l in
-      ap (λ ps. namer t (suc i) ∷ ps) (over-enough n (m - 1) (namer t (suc i)) p (omega arith) (omega arith))
-      ∙ sym (over-more t m (suc i) (omega arith) (omega arith))
-
-  -- over a row: the row that names it, and the rows over that one
-  pub above-more : (i : ℕ) → 0 < i → i < rowsOf t → above t i ≡ namer t i ∷ above t (namer t i)
-  above-more i h l =
-      let (p, u) = namer-below i h l in
-      over-more t (rowsOf t) i (omega arith) h
-      ∙ ap (λ ps. namer t i ∷ ps) (over-enough (rowsOf t - 1) (rowsOf t) (namer t i) p (omega arith) (omega arith))
+  pub namer-below : Rising t
+  namer-below = rising t (o .links) (o .once)
 
   -- the rows over a row that a link of row i leads to
   module _ (arm : Bool) (i j : ℕ) (l : i < rowsOf t) (k : Link t arm i j) where
     above-named : namer t j ≡ i → above t j ≡ i ∷ above t i
-    above-named e = let u = k .up in above-more j (omega arith) (k .inside) ∙ ap (λ p. p ∷ above t p) e
+    above-named e = let u = k .up in above-more t namer-below j (omega arith) (k .inside) ∙ ap (λ p. p ∷ above t p) e
 
     namer-linked : 0 < times j (links (row t i)) → namer t j ≡ i
     namer-linked h = let u = k .up in namer-is t j i (named-once t j (omega arith) (o .once j (k .inside))) l h

@@ -1,12 +1,7 @@
 pub mod Tests
 pub mod Rows
-pub mod Names
 pub mod Walk
-pub mod Chain
-pub mod Least
 pub mod Links
-pub mod Repeats
-pub mod Order
 pub mod Sizes
 pub mod Accepted
 pub mod Grown

@@ -14,9 +14,8 @@ use Rattle.words.proofs.Below.{Lowest, found, nowhere, lowest-is, lowest-at, su
 use Rattle.table.specs.Rows.{Row, End, Exchange, Arm, Loop, Back, Other, row, isArm, links}
 use Rattle.table.specs.Above.{times, timesNamed, namer}
 use Rattle.table.specs.Rules.{toArm, toOther, linkBroken, namedBroken}
-use Rattle.table.specs.mirror.Names.{nearLink, farLink}
+use Rattle.table.specs.mirror.Names.{nearLink, farLink, Rising}
 use Rattle.table.proofs.Tests.{both, neither}
-use Rattle.table.proofs.Names.{times-links}
 
 -- a link from row i to row j: upwards, inside, to an Arm or to no Arm
 pub record Link (t : List ℕ) (arm : Bool) (i j : ℕ) : Type 0 where
@@ -56,6 +55,17 @@ arm-link t i l c n e =
     (omega arith, to-other t i c o, next-link t i n (eqb n 0) refl a)
 
 -- ---- rule 7: the row that names a row
+
+-- a row's links, as its near and its far link; 0 is none
+pub times-links : (i : ℕ) → 0 < i → (r : Row) → times i (links r) ≡ one (eqb i (nearLink r)) + one (eqb i (farLink r))
+unfolding times
+times-links i h (End a b c) = rw (ne-eqb i 0 (omega arith))
+times-links i h (Exchange s r f) = rw (ne-eqb i 0 (omega arith))
+times-links i h (Arm l c zero) = rw (ne-eqb i 0 (omega arith))
+times-links i h (Arm l c (suc n)) = omega arith
+times-links i h (Loop b x y) = rw (ne-eqb i 0 (omega arith))
+times-links i h (Back d x y) = rw (ne-eqb i 0 (omega arith))
+times-links i h Other = rw (ne-eqb i 0 (omega arith))
 
 pub named-once : (t : List ℕ) (i : ℕ) → 0 < i → namedBroken t i ≡ false → timesNamed t i ≡ 1
 named-once t zero h e = absurd (omega arith)
@@ -112,3 +122,9 @@ leads t p i (Back d x y) h e (inl q) = absurd (omega arith)
 leads t p i (Back d x y) h e (inr q) = absurd (omega arith)
 leads t p i Other h e (inl q) = absurd (omega arith)
 leads t p i Other h e (inr q) = absurd (omega arith)
+
+-- so each row but 0 is named by a lower one, where both rules are kept
+pub rising : (t : List ℕ) → ((i : ℕ) → i < rowsOf t → linkBroken t i (row t i) ≡ false) → ((i : ℕ) → i < rowsOf t → namedBroken t i ≡ false) → Rising t
+rising t link once i h l =
+    let (p, n) = namer-names t i (named-once t i h (once i l)) in
+    leads t (namer t i) i (row t (namer t i)) h (link (namer t i) p) (named-by i (row t (namer t i)) h n) .0

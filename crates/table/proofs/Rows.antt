@@ -1,6 +1,6 @@
 -- Laws of what a row's first word says of it. Assumes nothing.
 use Prim.Native.Nat.{ℕ, zero, suc, _<_}
-use mathlib.Core.Bool.{Bool, true, false, cond, true≢false}
+use mathlib.Core.Bool.{Bool, true, cond, _&&_, true≢false}
 use mathlib.Core.Logic.{_≢_}
 use mathlib.Core.List.{List}
 use mathlib.Core.Path.{_≡_, refl, sym, _∙_, ap}
@@ -62,13 +62,13 @@ far-is (suc (suc (suc zero))) a b c = refl
 far-is (suc (suc (suc (suc zero)))) a b c = refl
 far-is (suc (suc (suc (suc (suc k))))) a b c = rw (ne-eqb (suc (suc (suc (suc (suc k))))) 2 (omega arith))
 
-pub no-back : (p : ℕ → Bool) (k a b c : ℕ) → k ≢ 4 → ofBack p (rowOf k a b c) ≡ false
-no-back p zero a b c h = refl
-no-back p (suc zero) a b c h = refl
-no-back p (suc (suc zero)) a b c h = refl
-no-back p (suc (suc (suc zero))) a b c h = refl
-no-back p (suc (suc (suc (suc zero)))) a b c h = absurd (h refl)
-no-back p (suc (suc (suc (suc (suc k))))) a b c h = refl
+pub of-back : (p : ℕ → Bool) (k a b c : ℕ) → ofBack p (rowOf k a b c) ≡ (eqb k 4 && p a)
+of-back p zero a b c = refl
+of-back p (suc zero) a b c = refl
+of-back p (suc (suc zero)) a b c = refl
+of-back p (suc (suc (suc zero))) a b c = refl
+of-back p (suc (suc (suc (suc zero)))) a b c = refl
+of-back p (suc (suc (suc (suc (suc k))))) a b c = rw (ne-eqb (suc (suc (suc (suc (suc k))))) 4 (omega arith))
 
 -- an Arm, by its words
 arm-words : (k a b c : ℕ) → isArm (rowOf k a b c) ≡ true → rowOf k a b c ≡ Arm a b c

@@ -1,7 +1,7 @@
 -- The tree of a table that the check accepts: nothing is in flight, no Back leaves it, each Back is guarded, exchanges are between two roles in
 -- range and have arms, no label stands twice in one. Assumes nothing.
 use Prim.Native.Nat.{ℕ, suc, _+_, _<_}
-use mathlib.Core.Bool.{true, false, cond, not, _&&_, _||_}
+use mathlib.Core.Bool.{true, false, not, _&&_, _||_}
 use mathlib.Core.List.{List, _∷_}
 use mathlib.Core.Logic.{_≢_}
 use mathlib.Core.Path.{_≡_, refl, sym, _∙_, ap}
@@ -9,18 +9,17 @@ use lib.Dec.{ltb, leb, eqb}
 use native.Mathlib.Omega.{arith}
 use borrow.Author.Tests.{eq-eqb, ltb-true, ltb-false, leb-false, eqb-false, not-true, not-false}
 use Rattle.words.specs.Rows.{rowsOf}
-use Rattle.words.specs.Below.{one}
 use Rattle.table.specs.Limits.{Limits}
-use Rattle.table.specs.Rows.{Row, Exchange, Arm, Loop, row, isLoop, label}
+use Rattle.table.specs.Rows.{Exchange, Arm, Loop, row, label}
 use Rattle.table.specs.Above.{above, chainOver, earlierArms, hasLabel, loops, onlyLoops}
 use Rattle.table.specs.Check.{accepted, checkOf}
 use Rattle.table.specs.Tree.{Global, Arms, nil, arm, treeOf}
 use Rattle.table.specs.Kept.{Inside, i-end, i-exchange, i-loop, i-back, InsideArms, i-nil, i-arm, Static, t-end, t-exchange, t-loop, t-back, StaticArms, t-nil, t-arm, HasLabel, has-here, has-there, Good, g-end, g-exchange, g-loop, g-back, GoodArms, g-nil, g-arm, Ranged, r-end, r-exchange, r-loop, r-back, RangedArms, r-nil, r-arm, Guarded, u-end, u-exchange, u-loop, u-back, GuardedArms, u-nil, u-arm}
 use Rattle.table.specs.mirror.Names.{nearLink, farLink, nearLoops}
 use Rattle.table.proofs.Tests.{both, neither}
-use Rattle.table.proofs.Walk.{only-loops}
+use Rattle.table.proofs.Walk.{over-zero, loops-more, near-more, only-loops}
 use Rattle.table.proofs.Accepted.{Obeys, obeys}
-use Rattle.table.proofs.Grown.{Cases, tree-of, above-near, above-far, over-zero}
+use Rattle.table.proofs.Grown.{Cases, tree-of, above-near, above-far}
 
 no-label : {A : Type 0} {l : ℕ} → HasLabel {A = A} l nil → ⊥
 no-label = elim [ ]
@@ -71,28 +70,23 @@ module _ (lim : Limits) (t : List ℕ) (roles : ℕ) (o : Obeys lim t roles) whe
 
   -- ---- Loops around, and Loops next to
 
-  -- a row over another adds itself
-  loops-more : (i j : ℕ) (r : Row) → row t i ≡ r → above t j ≡ i ∷ above t i → loops t (above t j) ≡ one (isLoop r) + loops t (above t i)
-  unfolding loops
-  loops-more i j r e a = rw (a, e)
-
   inside-cases : {A : Type 0} → Cases {A = A} t (λ i. Inside (loops t (above t i))) (λ i. InsideArms (loops t (above t i)))
   inside-cases = record {
     ended = λ i a b c l e. i-end;
     exchanged = λ i s r f cs l e k q.
-        let a = loops-more i f (Exchange s r f) e (above-near lim t roles o true i f l k (ap nearLink e)) in
+        let a = loops-more t i f (Exchange s r f) e (above-near lim t roles o true i f l k (ap nearLink e)) in
         i-exchange (rw (a ∙ plain (loops t (above t i))) at q);
     looped = λ i b x y G l e k p.
-        let a = loops-more i b (Loop b x y) e (above-near lim t roles o false i b l k (ap nearLink e)) in
+        let a = loops-more t i b (Loop b x y) e (above-near lim t roles o false i b l k (ap nearLink e)) in
         i-loop (rw (a ∙ extra (loops t (above t i))) at p);
     backed = λ i d x y l e.
         let h : leb (loops t (above t i)) d ≡ false = rw e at (o .bound i l) in i-back (leb-false (loops t (above t i)) d h);
     last = λ i l c G h e k p.
-        let a = loops-more i c (Arm l c 0) e (above-near lim t roles o false i c h k (ap nearLink e)) in
+        let a = loops-more t i c (Arm l c 0) e (above-near lim t roles o false i c h k (ap nearLink e)) in
         i-arm (rw (a ∙ plain (loops t (above t i))) at p) i-nil;
     more = λ i l c n G cs h e k m p q.
-        let a = loops-more i c (Arm l c n) e (above-near lim t roles o false i c h k (ap nearLink e)) in
-        let b = loops-more i n (Arm l c n) e (above-far lim t roles o true i n h m (ap farLink e)) in
+        let a = loops-more t i c (Arm l c n) e (above-near lim t roles o false i c h k (ap nearLink e)) in
+        let b = loops-more t i n (Arm l c n) e (above-far lim t roles o true i n h m (ap farLink e)) in
         i-arm (rw (a ∙ plain (loops t (above t i))) at p) (rw (b ∙ plain (loops t (above t i))) at q);
   }
     where
@@ -102,25 +96,20 @@ module _ (lim : Limits) (t : List ℕ) (roles : ℕ) (o : Obeys lim t roles) whe
       extra : (n : ℕ) → 1 + n ≡ suc n
       extra n = omega arith
 
-  near-more : (i j : ℕ) (r : Row) → row t i ≡ r → above t j ≡ i ∷ above t i
-      → nearLoops t (above t j) ≡ cond (isLoop r) (suc (nearLoops t (above t i))) 0
-  unfolding nearLoops
-  near-more i j r e a = rw (a, e)
-
   -- the arms of an Arm come after an exchange
   guarded-cases : {A : Type 0} → Cases {A = A} t (λ i. Guarded (nearLoops t (above t i))) (λ i. GuardedArms)
   guarded-cases = record {
     ended = λ i a b c l e. u-end;
     exchanged = λ i s r f cs l e k q. u-exchange q;
     looped = λ i b x y G l e k p.
-        let a = near-more i b (Loop b x y) e (above-near lim t roles o false i b l k (ap nearLink e)) in u-loop (rw a at p);
+        let a = near-more t i b (Loop b x y) e (above-near lim t roles o false i b l k (ap nearLink e)) in u-loop (rw a at p);
     backed = λ i d x y l e.
         let h : onlyLoops t d (above t i) ≡ false = rw e at (o .guarded i l) in
         u-back (ltb-false d (nearLoops t (above t i)) (sym (only-loops t d (above t i)) ∙ h));
     last = λ i l c G h e k p.
-        let a = near-more i c (Arm l c 0) e (above-near lim t roles o false i c h k (ap nearLink e)) in u-arm (rw a at p) u-nil;
+        let a = near-more t i c (Arm l c 0) e (above-near lim t roles o false i c h k (ap nearLink e)) in u-arm (rw a at p) u-nil;
     more = λ i l c n G cs h e k m p q.
-        let a = near-more i c (Arm l c n) e (above-near lim t roles o false i c h k (ap nearLink e)) in u-arm (rw a at p) q;
+        let a = near-more t i c (Arm l c n) e (above-near lim t roles o false i c h k (ap nearLink e)) in u-arm (rw a at p) q;
   }
 
   -- ---- labels

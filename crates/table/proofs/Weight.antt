@@ -20,7 +20,8 @@ use Rattle.table.specs.Kept.{rowsIn, rowsInArms}
 use Rattle.table.specs.mirror.Names.{nearLink, farLink}
 use Rattle.table.proofs.Tests.{either}
 use Rattle.table.proofs.Accepted.{Obeys, obeys}
-use Rattle.table.proofs.Grown.{Cases, tree-of, over-zero, namer-below, namer-near, namer-far, above-more}
+use Rattle.table.proofs.Grown.{Cases, tree-of, namer-below, namer-near, namer-far}
+use Rattle.table.proofs.Walk.{over-zero, above-more}
 
 -- i is one of these rows
 among : ℕ → List ℕ → Bool
@@ -47,7 +48,7 @@ module _ (lim : Limits) (t : List ℕ) (roles : ℕ) (o : Obeys lim t roles) whe
 
   below-more : (i p : ℕ) → 0 < p → p < rowsOf t → below t i p ≡ (eqb i p || below t i (namer t p))
   unfolding below
-  below-more i p h l = rw (above-more lim t roles o p h l)
+  below-more i p h l = rw (above-more t (namer-below lim t roles o) p h l)
 
   below-same : (p : ℕ) → below t p p ≡ true
   unfolding below
@@ -58,10 +59,10 @@ module _ (lim : Limits) (t : List ℕ) (roles : ℕ) (o : Obeys lim t roles) whe
   below-le zero i p h l e = absurd (omega arith)
   below-le (suc m) i zero h l e = let q = eqb-true i 0 (sym (below-zero i) ∙ e) in omega arith
   below-le (suc m) i (suc p) h l e =
-      let (n, u) = namer-below lim t roles o (suc p) (omega arith) l in
+      let u = namer-below lim t roles o (suc p) (omega arith) l in
       ⊎-elim
       (λ q. let r = eqb-true i (suc p) q in omega arith)
-      (λ q. let r = below-le m i (namer t (suc p)) (omega arith) n q in omega arith)
+      (λ q. let r = below-le m i (namer t (suc p)) (omega arith) (omega arith) q in omega arith)
       (either (eqb i (suc p)) (below t i (namer t (suc p))) (sym (below-more i (suc p) (omega arith) l) ∙ e))
 
   module _ (x c : ℕ) (xc : x < c) (nc : namer t c ≡ x) where
@@ -70,13 +71,13 @@ module _ (lim : Limits) (t : List ℕ) (roles : ℕ) (o : Obeys lim t roles) whe
     below-up zero p h l e = absurd (omega arith)
     below-up (suc m) zero h l e = let q = eqb-true c 0 (sym (below-zero c) ∙ e) in absurd (omega arith)
     below-up (suc m) (suc p) h l e =
-        let (n, u) = namer-below lim t roles o (suc p) (omega arith) l in
+        let u = namer-below lim t roles o (suc p) (omega arith) l in
         below-more x (suc p) (omega arith) l
         ∙ ⊎-elim
         (λ q.
         let r : namer t (suc p) ≡ x = ap (namer t) (sym (eqb-true c (suc p) q)) ∙ nc in
         rw (r, below-same x) (or-true (eqb x (suc p))))
-        (λ q. rw (below-up m (namer t (suc p)) (omega arith) n q) (or-true (eqb x (suc p))))
+        (λ q. rw (below-up m (namer t (suc p)) (omega arith) (omega arith) q) (or-true (eqb x (suc p))))
         (either (eqb c (suc p)) (below t c (namer t (suc p))) (sym (below-more c (suc p) (omega arith) l) ∙ e))
 
     -- the row that names c is not below c
@@ -89,7 +90,7 @@ module _ (lim : Limits) (t : List ℕ) (roles : ℕ) (o : Obeys lim t roles) whe
   apart x c n xc xn nc nn d xl zero p h l ec en = absurd (omega arith)
   apart x c n xc xn nc nn d xl (suc m) zero h l ec en = let q = eqb-true c 0 (sym (below-zero c) ∙ ec) in omega arith
   apart x c n xc xn nc nn d xl (suc m) (suc p) h l ec en =
-      let (nl, u) = namer-below lim t roles o (suc p) (omega arith) l in
+      let u = namer-below lim t roles o (suc p) (omega arith) l in
       ⊎-elim
       (λ a. ⊎-elim
       (λ b. d (eqb-true c (suc p) a ∙ sym (eqb-true n (suc p) b)))
@@ -97,7 +98,7 @@ module _ (lim : Limits) (t : List ℕ) (roles : ℕ) (o : Obeys lim t roles) whe
       (split n en))
       (λ a. ⊎-elim
       (λ b. not-up x c xc nc xl (rw (ap (namer t) (sym (eqb-true n (suc p) b)) ∙ nn) at a))
-      (λ b. apart x c n xc xn nc nn d xl m (namer t (suc p)) (omega arith) nl a b)
+      (λ b. apart x c n xc xn nc nn d xl m (namer t (suc p)) (omega arith) (omega arith) a b)
       (split n en))
       (split c ec)
     where

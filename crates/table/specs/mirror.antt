@@ -1,4 +1,2 @@
--- What the contracts of the crate's own functions cite, and nobody else need read. Assumes nothing.
+-- What the contracts of the links and the laws of the tree cite. Assumes nothing.
 pub mod Names
-pub mod Chain
-pub mod Blame

@@ -2,7 +2,7 @@
 use Prim.Native.Nat.{ℕ, zero, suc, _+_, _≤_, _<_}
 use mathlib.Core.Bool.{Bool, true, false, cond, _&&_, _||_, true≢false, or-true, and-false}
 use mathlib.Core.Logic.{⊎-elim}
-use mathlib.Core.Path.{_≡_, refl, sym, _∙_, ap, ap₂}
+use mathlib.Core.Path.{_≡_, refl, sym}
 use lib.Dec.{ltb}
 use native.Mathlib.Nat.{eq-or-lt-of-le, le-of-suc-le-suc}
 use native.Mathlib.Omega.{arith}
@@ -30,11 +30,6 @@ lowest-at p (suc n) i l h e =
     (λ q. let r : n ≡ i = sym q in rw (r, lowest-none p i h, le-ltb i i (omega arith), e))
     (λ q. rw (lowest-at p n i q h e, lt-ltb i n q))
     (eq-or-lt-of-le (le-of-suc-le-suc l))
-
-pub lowest-ext : (p q : ℕ → Bool) (n : ℕ) → ((k : ℕ) → k < n → p k ≡ q k) → lowest p n ≡ lowest q n
-unfolding lowest
-lowest-ext p q zero h = refl
-lowest-ext p q (suc n) h = rw (lowest-ext p q n (λ k l. h k (omega arith)), h n (omega arith))
 
 -- what `lowest` says: a test that holds at it and nowhere below it, or none at all
 pub data Lowest (p : ℕ → Bool) (n : ℕ) : ℕ → Type 0 where
@@ -65,9 +60,14 @@ unfolding every
 every-all p zero h = refl
 every-all p (suc n) h = rw (every-all p n (λ k l. h k (omega arith)), h n (omega arith))
 
-and-both : (a b : Bool) → (a && b) ≡ true → (a ≡ true) × (b ≡ true)
+-- both halves of a test, and neither
+pub and-both : (a b : Bool) → (a && b) ≡ true → (a ≡ true) × (b ≡ true)
 and-both true b e = (refl, e)
 and-both false b e = absurd (true≢false (sym e))
+
+pub or-neither : (a b : Bool) → (a || b) ≡ false → (a ≡ false) × (b ≡ false)
+or-neither true b e = absurd (true≢false e)
+or-neither false b e = (refl, e)
 
 pub every-at : (p : ℕ → Bool) (n k : ℕ) → every p n ≡ true → k < n → p k ≡ true
 unfolding every

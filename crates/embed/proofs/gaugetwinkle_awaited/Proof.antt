@@ -1,25 +1,21 @@
 -- `embed::gaugetwinkle_awaited` meets its contract. Assumes nothing.
-use mathlib.Core.Path.{_≡_, refl, sym, _∙_}
-use Rattle.embed.proofs.Handing.{state-lengths, awaited-made, nobody-told}
+use mathlib.Core.Path.{refl}
 use borrow.Author.Needs.{needs}
+use Rattle.embed.proofs.Handing.{awaited-made, nobody-told}
 use Rattle.embed.proofs.gaugetwinkle_awaited.Statement.{statement}
 use Rattle.embed.proofs.gaugetwinkle_awaited.Tie as tie
 
-is-state-requires : tie.Need-is-state-requires
-is-state-requires c κs = search needs
-
 taken-requires : tie.Need-taken-requires
-taken-requires c κs =
-    let a = c .before .before .before .before .before .before .before .args in
-    state-lengths (a .heads .now) (a .counts .now) (a .labels .now) (a .payloads .now) (sym (c .before .is-state .ensures) ∙ c .if1 .taken)
+taken-requires c κs = search needs
 
 awaited-requires : tie.Need-awaited-requires
 awaited-requires c κs = search needs
 
 returns : tie.Need-returns
 returns c =
-    let a = c .before .before .before .before .before .before .before .before .before .args in
-    let e = awaited-made (a .tables .now) (a .roles) (a .heads .now) (a .counts .now) (a .labels .now) (a .payloads .now) (sym (c .before .before .before .is-state .ensures) ∙ c .before .before .if1 .taken) _ (c .before .taken .ensures) _ (c .awaited .ensures) in
+    let a = c .before .before .before .before .before .before .before .before .args in
+    let e = awaited-made (a .tables .now) (a .roles) (a .heads .now) (a .counts .now) (a .labels .now) (a .payloads .now)
+    _ (c .before .before .taken .ensures) (c .before .if1 .taken) _ (c .awaited .ensures) in
     rw (← e) (record { number-is = refl; set-is = refl; count-is = refl; lowest-is = refl })
 
 cast-lowest : tie.Need-cast-lowest
@@ -31,13 +27,13 @@ wrong-number-requires c κs = search needs
 returns-2 : tie.Need-returns-2
 returns-2 c =
     let a = c .before .before .before .before .before .before .before .before .args in
-    nobody-told (a .tables .now) (a .roles) (a .heads .now) (a .counts .now) (a .labels .now) (a .payloads .now) (sym (c .before .before .is-state .ensures) ∙ c .before .if1 .left) _ (c .wrong-number .ensures)
+    nobody-told (a .tables .now) (a .roles) (a .heads .now) (a .counts .now) (a .labels .now) (a .payloads .now)
+    _ (c .before .before .taken .ensures) (c .before .if1 .left) _ (c .wrong-number .ensures)
 
 pub gaugetwinkle-awaited-spec : {M : Type 1} → statement M
 gaugetwinkle-awaited-spec =
     tie.close
     (tie.spec
-    is-state-requires
     taken-requires
     awaited-requires
     returns

@@ -1,84 +1,57 @@
 -- `embed::gaugetwinkle_receive` meets its contract. Assumes nothing.
-use mathlib.Core.Path.{_≡_, refl, sym, ap, _∙_}
-use Rattle.session.specs.declared.Answer.{Answer}
+use borrow.Author.Needs.{needs}
 use Rattle.table.specs.Limits.{base}
 use Rattle.session.specs.Calls.{receiveOf}
-use Rattle.embed.proofs.Handing.{state-lengths, call-made, not-made, handed}
-use borrow.Author.Needs.{needs}
+use Rattle.embed.proofs.Handing.{handed, said}
 use Rattle.embed.proofs.gaugetwinkle_receive.Statement.{statement}
 use Rattle.embed.proofs.gaugetwinkle_receive.Tie as tie
 
-is-state-requires : tie.Need-is-state-requires
-is-state-requires c κs = search needs
-
 taken-requires : tie.Need-taken-requires
-taken-requires c κs =
-    let a = c .before .before .before .before .before .before .before .before .before .before .before .before .before .before .before .args in
-    state-lengths (a .heads .now) (a .counts .now) (a .labels .now) (a .payloads .now) (sym (c .before .before .before .before .before .is-state .ensures) ∙ c .before .before .before .before .if1 .taken)
+taken-requires c κs = search needs
 
-receive-requires : tie.Need-receive-requires
-receive-requires c κs = search needs
+received-requires : tie.Need-received-requires
+received-requires c κs = search needs
 
 put-back-requires : tie.Need-put-back-requires
-put-back-requires c κs =
-    let a = c .before .before .before .before .before .before .before .before .before .before .before .before .before .before .before .before .before .before .before .before .before .before .args in
-    state-lengths (a .heads .now) (a .counts .now) (a .labels .now) (a .payloads .now) (sym (c .before .before .before .before .before .before .before .before .before .before .before .before .is-state .ensures) ∙ c .before .before .before .before .before .before .before .before .before .before .before .if1 .taken)
+put-back-requires c κs = search needs
 
 same-length : tie.Need-same-length
-same-length c = search needs
+same-length c = c .before .before .before .before .before .before .before .before .put-back .kept .1 .0
 
 same-length-2 : tie.Need-same-length-2
-same-length-2 c = search needs
+same-length-2 c = c .before .before .before .before .before .before .before .before .put-back .kept .1 .1 .0
 
 same-length-3 : tie.Need-same-length-3
-same-length-3 c = search needs
+same-length-3 c = c .before .before .before .before .before .before .before .before .put-back .kept .1 .1 .1 .0
 
 same-length-4 : tie.Need-same-length-4
-same-length-4 c = search needs
+same-length-4 c = c .before .before .before .before .before .before .before .before .put-back .kept .1 .1 .1 .1 .0
 
 returns : tie.Need-returns
 returns c =
-    let a = c .before .before .before .before .before .before .before .before .before .before .before .before .before .before .before .before .before .before .before .before .before .before .before .before .before .before .before .before .before .before .before .args in
-    let e = call-made (a .tables .now) (a .roles) (a .heads .now) (a .counts .now) (a .labels .now) (a .payloads .now) (receiveOf base (a .tables .now) (a .roles) (a .sender) (a .receiver)) (sym (c .before .before .before .before .before .before .before .before .before .before .before .before .before .before .before .before .before .before .before .before .before .is-state .ensures) ∙ c .before .before .before .before .before .before .before .before .before .before .before .before .before .before .before .before .before .before .before .before .if1 .taken) _ (c .before .before .before .before .before .before .before .before .before .before .before .before .before .before .before .taken .ensures) _ (c .before .before .before .before .before .before .before .before .before .before .before .before .before .before .receive .ensures) in
-    (handed _ _ e _ _ _ _ (c .before .before .before .before .before .before .before .before .put-back .ensures .0) (c .before .before .before .before .before .before .before .before .put-back .ensures .1) (c .before .before .before .before .before .before .before .before .put-back .ensures .2) (c .before .before .before .before .before .before .before .before .put-back .ensures .3), ap (λ (a : Answer). a .label) e, ap (λ (a : Answer). a .payload) e)
-
-wrong-number-requires : tie.Need-wrong-number-requires
-wrong-number-requires c κs = search needs
-
-same-length-5 : tie.Need-same-length-5
-same-length-5 c = search needs
-
-same-length-6 : tie.Need-same-length-6
-same-length-6 c = search needs
-
-same-length-7 : tie.Need-same-length-7
-same-length-7 c = search needs
-
-same-length-8 : tie.Need-same-length-8
-same-length-8 c = search needs
-
-returns-2 : tie.Need-returns-2
-returns-2 c =
-    let a = c .before .before .before .before .before .before .before .before .before .before .before .before .args in
-    let e = not-made (a .tables .now) (a .roles) (a .heads .now) (a .counts .now) (a .labels .now) (a .payloads .now) (receiveOf base (a .tables .now) (a .roles) (a .sender) (a .receiver)) (sym (c .before .before .is-state .ensures) ∙ c .before .if1 .left) _ (c .wrong-number .ensures) in
-    (handed _ _ e _ _ _ _ refl refl refl refl, ap (λ (a : Answer). a .label) e, ap (λ (a : Answer). a .payload) e)
+    let put = c .before .before .before .before .before .before .before .before in
+    let step = put .before .before .before .before .before in
+    let given = step .before in
+    let a = given .before .before .before .before .before .before .before .before .before .before .args in
+    let call = receiveOf base (a .tables .now) (a .roles) (a .sender) (a .receiver) in
+    let answer = said (a .tables .now) (a .roles) (a .heads .now) (a .counts .now) (a .labels .now) (a .payloads .now)
+    call _ (given .taken .ensures) _ (step .received .ensures) in (
+      handed (a .tables .now) (a .roles) (a .heads .now) (a .counts .now) (a .labels .now) (a .payloads .now)
+          call _ (given .taken .ensures) _ (step .received .ensures) _ _ _ _
+          (put .put-back .ensures .0) (put .put-back .ensures .1) (put .put-back .ensures .2) (put .put-back .ensures .3),
+      answer .1,
+      answer .2,
+    )
 
 pub gaugetwinkle-receive-spec : {M : Type 1} → statement M
 gaugetwinkle-receive-spec =
     tie.close
     (tie.spec
-    is-state-requires
     taken-requires
-    receive-requires
+    received-requires
     put-back-requires
     same-length
     same-length-2
     same-length-3
     same-length-4
-    returns
-    wrong-number-requires
-    same-length-5
-    same-length-6
-    same-length-7
-    same-length-8
-    returns-2)
+    returns)

@@ -8,6 +8,7 @@ use Rattle.words.specs.Rows.{putRow}
 use Rattle.parts.specs.Part.{Part}
 use Rattle.parts.specs.Layout.{size}
 use Rattle.parts.specs.mirror.Codes.{codes}
+use Rattle.parts.specs.mirror.Seven.{bySeven}
 use Rattle.parts.specs.mirror.Stands.{Stands}
 use Rattle.layout.specs.declared.Laid.{Laid}
 
@@ -67,15 +68,6 @@ pub record Lay : Type 0 where
 
 abbrev pub stop : ℕ → List ℕ → ℕ → List ℕ → Lay
 stop i out row loops = record { res = record { code = i; row = row }; out = out; loops = loops }
-
-abbrev pub bySeven : {A : Type 0} → ℕ → A → A → A → A → A → A → A → A
-bySeven zero a b c d e f g = a
-bySeven (suc zero) a b c d e f g = b
-bySeven (suc (suc zero)) a b c d e f g = c
-bySeven (suc (suc (suc zero))) a b c d e f g = d
-bySeven (suc (suc (suc (suc zero)))) a b c d e f g = e
-bySeven (suc (suc (suc (suc (suc zero))))) a b c d e f g = f
-bySeven (suc (suc (suc (suc (suc (suc n)))))) a b c d e f g = g
 
 -- one call's work at the step k, with the calls inside it as a parameter
 abbrev pub layBody : (ℕ → List ℕ → ℕ → List ℕ → ℕ → Lay) → ℕ → List ℕ → ℕ → ℕ → List ℕ → ℕ → List ℕ → ℕ → Lay

@@ -2,11 +2,13 @@
 use Prim.Native.Nat.{ℕ, zero, suc, _+_, _-_, _%_}
 use mathlib.Core.Bool.{Bool, true, false, _&&_, _||_, cond}
 use mathlib.Core.List.{List}
-use lib.ListN.{getD, set}
+use lib.ListN.{length, getD, set}
 use lib.Dec.{ltb, eqb}
+use Rattle.parts.specs.mirror.Seven.{bySeven}
 use Rattle.merge.specs.declared.Merged.{Merged}
 use Rattle.merge.specs.declared.Step.{Step}
 use Rattle.merge.specs.declared.Joined.{Joined}
+use Rattle.merge.specs.declared.Places.{Places}
 
 abbrev pub FAR : ℕ
 FAR = 65536
@@ -63,15 +65,6 @@ stepOut left s a b o at =
     cond (inside left a b at) (set o at (cond (eqb (rule (getD s a 0) (getD s b 0)) 5) (getD s b 0) (getD s a 0))) o
 
 -- one thing a rule
-abbrev pub byRule : {A : Type 0} → ℕ → A → A → A → A → A → A → A → A
-byRule zero a b c d e f g = a
-byRule (suc zero) a b c d e f g = b
-byRule (suc (suc zero)) a b c d e f g = c
-byRule (suc (suc (suc zero))) a b c d e f g = d
-byRule (suc (suc (suc (suc zero)))) a b c d e f g = e
-byRule (suc (suc (suc (suc (suc zero))))) a b c d e f g = f
-byRule (suc (suc (suc (suc (suc (suc n)))))) a b c d e f g = g
-
 abbrev pub bothOk : Bool → Merged → Merged
 bothOk ok m = record { ok = ok && m .ok; a = m .a; b = m .b; at = m .at }
 
@@ -84,7 +77,7 @@ after m next =
 -- one call's work after its step, with the copies and the calls inside it as parameters
 abbrev pub mergeBody : (ℕ → ℕ → List ℕ → ℕ → Merge) → (ℕ → ℕ → List ℕ → ℕ → Merge) → Step → ℕ → ℕ → List ℕ → ℕ → Merge
 mergeBody cp rec s a b o at =
-    byRule (s .rule)
+    bySeven (s .rule)
     (refused a b o at)
     (record { res = record { ok = true; a = s .a; b = s .b; at = s .at }; out = o })
     (rec (s .a) (s .b) o (s .at))
@@ -98,13 +91,57 @@ mergeOf zero s a b o at = refused a b o at
 mergeOf (suc n) s a b o at =
     mergeBody (copyOf n s) (mergeOf n s) (stepOf (suc n) s a b at) a b (stepOut (suc n) s a b o at) at
 
+-- the place behind the words that were put, and the words there are then
+pub record Put : Type 0 where
+  pub end : ℕ
+  pub out : List ℕ
+
+-- n words of s from i on, put at `at` as far as there is room
+unfoldable pub putOn : ℕ → List ℕ → ℕ → List ℕ → ℕ → Put
+putOn zero s i o at = record { end = at; out = o }
+putOn (suc n) s i o at = cond (ltb at (length o)) (putOn n s (i + 1) (set o at (getD s i 0)) (at + 1)) (record { end = at; out = o })
+
+-- the place behind owed parts or arm lists from x on
+unfoldable pub behindOn : ℕ → List ℕ → ℕ → ℕ → ℕ
+behindOn zero s x owed = x
+behindOn (suc n) s x zero = x
+behindOn (suc n) s x (suc m) = behindOn n s (x + 1) (m + kids (getD s x 0))
+
+abbrev pub behindOf : List ℕ → ℕ → ℕ
+behindOf s a = behindOn (length s - a) s a 1
+
+-- an arm at x that comes before the arm whose word is y
+abbrev pub comesFirst : List ℕ → ℕ → ℕ → Bool
+comesFirst s x y = (ltb x (length s) && eqb (getD s x 0 % 8) 2) && ltb (getD s x 0) y
+
+unfoldable pub behindArmsOn : ℕ → List ℕ → ℕ → ℕ → ℕ
+behindArmsOn zero s x y = x
+behindArmsOn (suc n) s x y = cond (comesFirst s x y) (behindArmsOn n s (behindOf s (x + 1)) y) x
+
+abbrev pub behindArms : List ℕ → ℕ → ℕ → ℕ
+behindArms s a y = behindArmsOn (length s) s a y
+
+-- two Receives from one role
+abbrev pub receiveBoth : List ℕ → ℕ → ℕ → Bool
+receiveBoth s a b = ((ltb a (length s) && ltb b (length s)) && eqb (getD s a 0 % 8) 6) && eqb (getD s a 0) (getD s b 0)
+
+unfoldable pub skipOf : List ℕ → ℕ → ℕ → Places
+skipOf s a b =
+    cond (receiveBoth s a b) (record { a = behindArms s (a + 1) (getD s (b + 1) 0); b = b + 1 }) (record { a = a; b = b })
+
 pub record Join : Type 0 where
   pub res : Joined
   pub work : List ℕ
   pub spare : List ℕ
 
-unfoldable pub joinOf : ℕ → List ℕ → List ℕ → ℕ → ℕ → Join
-joinOf left work spare a b =
+-- the merge of what stands at a and b, put at a
+unfoldable pub joinFrom : ℕ → List ℕ → List ℕ → ℕ → ℕ → Join
+joinFrom left work spare a b =
     let m = mergeOf left work a b spare 0 in
-    let c = copyOf left (m .out) 0 0 work a in
-    record { res = record { ok = m .res .ok && c .res .ok; at = c .res .at }; work = c .out; spare = m .out }
+    let p = putOn (m .res .at) (m .out) 0 work a in
+    record { res = record { ok = m .res .ok; at = p .end }; work = p .out; spare = m .out }
+
+abbrev pub joinOf : ℕ → List ℕ → List ℕ → ℕ → ℕ → Join
+joinOf left work spare a b =
+    let from = skipOf work a b in
+    joinFrom left work spare (from .a) (from .b)

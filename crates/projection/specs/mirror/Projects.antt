@@ -1,20 +1,27 @@
 -- What is promised of the projection's functions: each puts the words of a part, or of arms, on a stack, or says that there is no part.
 -- r: the role. work, work′: the stack before and after. at, e: its height. Assumes nothing.
 use Prim.Native.Nat.{ℕ, zero, suc, _+_, _*_, _<_, _≤_}
-use mathlib.Core.Bool.{Bool, true, false, _||_}
+use mathlib.Core.Bool.{true, false, not, _||_}
 use mathlib.Core.List.{List, [], _∷_, _++_}
 use mathlib.Core.Option.{Option, none, some, bind}
 use mathlib.Core.Path.{_≡_}
 use lib.ListN.{length}
+use Rattle.words.specs.Below.{lowest}
+use Rattle.words.specs.Rows.{word, rowsOf}
 use Rattle.table.specs.Limits.{base}
+use Rattle.table.specs.Check.{accepted, checkOf}
 use Rattle.table.specs.Kept.{Good, GoodArms, rowsIn, rowsInArms}
-use Rattle.table.specs.Tree.{Global, end, exchange, loop, back, Arms, nil, arm, treeAt, chainAt}
+use Rattle.table.specs.Tree.{Global, end, exchange, loop, back, Arms, nil, arm}
 use Rattle.parts.specs.Part.{Part, PartArms, rising}
 use Rattle.parts.specs.Absent.{takesPart, leaves}
-use Rattle.parts.specs.Projection.{part, partArms, partExchange, mergeFrom, mergeAll}
+use Rattle.parts.specs.Projection.{part, partArms, partExchange, mergeFrom, mergeAll, partOf, present}
 use Rattle.parts.specs.Layout.{size}
 use Rattle.parts.specs.mirror.Rising.{Rising}
 use Rattle.parts.specs.mirror.Codes.{code, codes, codesArms}
+use Rattle.parts.specs.mirror.Grows.{Grows, Chain, ordered}
+use Rattle.parts.specs.mirror.Stands.{Stands}
+use Rattle.reach.specs.mirror.Keeps.{Keeps}
+use Rattle.chains.specs.mirror.Orders.{Listed, Orders}
 use Rattle.projection.specs.declared.Projected.{Projected}
 use Rattle.projection.specs.declared.Arm.{Arm}
 
@@ -39,6 +46,11 @@ mutual
   pub data SmallArms {A : Type 0} : Arms A → Type 0 where
     s-nil : SmallArms nil
     s-arm : {l : ℕ} {G : Global A} {cs : Arms A} → l < SMALL → Small G → SmallArms cs → SmallArms (arm l G cs)
+
+-- arms whose labels are small and whose trees are good and small, in any order
+pub data Plain : Arms ℕ → Type 0 where
+  plain-nil : Plain nil
+  plain-arm : {l : ℕ} {G : Global ℕ} {cs : Arms ℕ} → l < SMALL → Good G → Small G → Plain cs → Plain (arm l G cs)
 
 -- ---- the stack
 
@@ -65,45 +77,80 @@ pub data Outcome {X : Type 0} (f : X → List ℕ) (s work : List ℕ) (r : Proj
 
 -- ---- rows
 
--- what the case k of a plan says of the tree G: its part is the word w; it is a Loop that stays, around the tree of the row next; an action of
--- the role's own; an exchange of others
-abbrev pub PlannedBy : ℕ → ℕ → List ℕ → Global ℕ → ℕ → ℕ → ℕ → Type 0
-PlannedBy zero r t G w next left = (P : Part) × (part r G ≡ some P) × (codes P ≡ w ∷ [])
-PlannedBy (suc zero) r t G w next left =
-    (G ≡ loop (treeAt left t next))
-    × ((takesPart r (treeAt {A = ℕ} left t next) || leaves 1 (treeAt {A = ℕ} left t next)) ≡ true)
-    × (w ≡ code 3 0)
-PlannedBy (suc (suc zero)) r t G w next left =
-    (p : ℕ) × (q : ℕ) × (act : (PartArms → Part)) × (G ≡ exchange p q (chainAt left t next))
+-- what the case k of a plan says of the tree G of a row: its part is the word w; it is a Loop that stays, around the tree of the row next; an
+-- action of the role's own, whose arms in rising order start at next; an exchange of others, whose chain starts at next
+abbrev pub PlannedBy : ℕ → ℕ → List ℕ → List ℕ → Global ℕ → ℕ → ℕ → Type 0
+PlannedBy zero r t order G w next = (P : Part) × (part r G ≡ some P) × (codes P ≡ w ∷ [])
+PlannedBy (suc zero) r t order G w next =
+    (B : Global ℕ) × (G ≡ loop B) × Grows t next B × ((takesPart r B || leaves 1 B) ≡ true) × (w ≡ code 3 0)
+PlannedBy (suc (suc zero)) r t order G w next =
+    (p : ℕ) × (q : ℕ) × (cs : Arms ℕ) × (act : (PartArms → Part)) × (G ≡ exchange p q cs) × Listed t order next (ordered cs)
     × ((ps : PartArms) → partExchange r p q ps ≡ some (act (rising ps)))
     × ((ps : PartArms) → codes (act ps) ≡ w ∷ codesArms ps)
-PlannedBy (suc (suc (suc k))) r t G w next left =
-    (p : ℕ) × (q : ℕ) × (G ≡ exchange p q (chainAt left t next)) × ((ps : PartArms) → partExchange r p q ps ≡ mergeAll ps)
+PlannedBy (suc (suc (suc k))) r t order G w next =
+    (p : ℕ) × (q : ℕ) × (cs : Arms ℕ) × (G ≡ exchange p q cs) × Chain t next cs × ((ps : PartArms) → partExchange r p q ps ≡ mergeAll ps)
 
-pub record Planned (k r : ℕ) (t : List ℕ) (G : Global ℕ) (w next left : ℕ) : Type 0 where
-  pub says : Good G → Small G → PlannedBy k r t G w next left
+-- what is known of a table, of what is kept of its Loops and of the order of its arms, for a role
+pub record Known (r : ℕ) (t kept order : List ℕ) : Type 0 where
+  pub role : r < base .roles
+  pub keeps : Keeps t kept
+  pub orders : Orders t order
 
--- whether the chain cs has an arm, and what the code read of it
-abbrev pub ArmBy : Bool → List ℕ → Arms ℕ → Arm → Type 0
-ArmBy false t cs a = cs ≡ nil
-ArmBy true t cs a =
-    (l : ℕ) × (cs ≡ arm l (treeAt (a .left) t (a .cont)) (chainAt (a .rest) t (a .next))) × (l < SMALL → a .word ≡ code 2 l)
+pub record Planned (k r : ℕ) (t kept order : List ℕ) (i w next : ℕ) : Type 0 where
+  pub says : (G : Global ℕ) → Known r t kept order → Grows t i G → Small G → PlannedBy k r t order G w next
 
-pub record ArmIs (b : Bool) (t : List ℕ) (cs : Arms ℕ) (a : Arm) : Type 0 where
-  pub says : ArmBy b t cs a
+-- an arm as the code read it
+pub record ArmRead (t : List ℕ) (i : ℕ) (a : Arm) : Type 0 where
+  pub word-is : word t i 1 < SMALL → a .word ≡ code 2 (word t i 1)
+  pub cont-is : a .cont ≡ word t i 2
+  pub next-is : a .next ≡ word t i 3
 
 -- ---- the calls
 
-pub record Projects (r : ℕ) (G : Global ℕ) (work : List ℕ) (at : ℕ) (spare work′ : List ℕ) (res : Projected) : Type 0 where
-  pub gives : (s : List ℕ) → Good G → Small G → Stack work at s → Space (rowsIn G * 2) at work spare
-      → Outcome codes s work′ res (part r G)
+-- the links that may be followed suffice for a tree of so many rows
+pub record Projects (r : ℕ) (t kept order : List ℕ) (left i : ℕ) (work : List ℕ) (at : ℕ) (spare work′ : List ℕ) (res : Projected) : Type 0 where
+  pub gives : (G : Global ℕ) (s : List ℕ) → Known r t kept order → Grows t i G → rowsIn G ≤ left → Good G → Small G → Stack work at s
+      → Space (rowsIn G * 2) at work spare → Outcome codes s work′ res (part r G)
 
-pub record Owns (r : ℕ) (cs : Arms ℕ) (work : List ℕ) (at : ℕ) (spare work′ : List ℕ) (res : Projected) : Type 0 where
-  pub gives : (s : List ℕ) → GoodArms cs → SmallArms cs → Stack work at s → Space (suc (rowsInArms cs * 2)) at work spare
-      → Outcome (λ ps. codesArms (rising ps)) s work′ res (partArms r cs)
+-- the arms from row i on, in rising order
+pub record Owns (r : ℕ) (t kept order : List ℕ) (left i : ℕ) (work : List ℕ) (at : ℕ) (spare work′ : List ℕ) (res : Projected) : Type 0 where
+  pub gives : (cs : Arms ℕ) (s : List ℕ) → Known r t kept order → Listed t order i cs → rowsInArms cs ≤ left → Plain cs → Stack work at s
+      → Space (suc (rowsInArms cs * 2)) at work spare → Outcome codesArms s work′ res (partArms r cs)
+
+-- the arms from row i of a chain on, none for 0
+pub data Behind (t : List ℕ) : ℕ → Arms ℕ → Type 0 where
+  behind-none : Behind t 0 nil
+  behind-some : {i : ℕ} {cs : Arms ℕ} → 0 < i → Chain t i cs → Behind t i cs
 
 -- P is the last on the stack
-pub record Folds (r : ℕ) (cs : Arms ℕ) (work : List ℕ) (at e : ℕ) (spare work′ : List ℕ) (res : Projected) : Type 0 where
-  pub gives : (s : List ℕ) (P : Part) → GoodArms cs → SmallArms cs → Rising P → at ≡ length s → Stack work e (s ++ codes P)
-      → Space ((size P + rowsInArms cs) * 2) at work spare
+pub record Folds (r : ℕ) (t kept order : List ℕ) (left i : ℕ) (work : List ℕ) (at e : ℕ) (spare work′ : List ℕ) (res : Projected) : Type 0 where
+  pub gives : (cs : Arms ℕ) (s : List ℕ) (P : Part) → Known r t kept order → Behind t i cs → rowsInArms cs ≤ left → GoodArms cs → SmallArms cs → Rising P
+      → at ≡ length s → Stack work e (s ++ codes P) → Space ((size P + rowsInArms cs) * 2) at work spare
       → Outcome codes s work′ res (bind (partArms r cs) (λ ps. mergeFrom P ps))
+
+-- ---- the parts of all roles
+
+-- the words of a part, none where there is none
+abbrev pub wordsOf : Option Part → List ℕ
+wordsOf none = []
+wordsOf (some P) = codes P
+
+-- the words of the parts of the roles below n, role 0 first
+unfoldable pub partsWords : List ℕ → ℕ → List ℕ
+unfolding codes partOf
+partsWords t zero = []
+partsWords t (suc n) = partsWords t n ++ wordsOf (partOf t n)
+
+-- what the code needs to put the parts of all roles on the stack
+pub record Prepared (t kept order : List ℕ) (roles : ℕ) (work spare : List ℕ) : Type 0 where
+  pub checked : checkOf base t roles ≡ accepted
+  pub keeps : Keeps t kept
+  pub orders : Orders t order
+  pub fits : roles * (rowsOf t * 2) ≤ length work
+  pub near : length work < FAR
+  pub spares : rowsOf t * 2 < length spare
+
+-- the lowest role that has no part, or roles; and, where every role has one, the words of all parts one after the other
+pub record Parted (t : List ℕ) (roles : ℕ) (work′ : List ℕ) (r : ℕ) : Type 0 where
+  pub lacks : r ≡ lowest (λ k. not (present (partOf t k))) roles
+  pub stands : roles ≤ r → Stands work′ 0 (partsWords t roles)

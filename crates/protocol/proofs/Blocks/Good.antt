@@ -12,11 +12,12 @@ use borrow.Author.Tests.{lt-ltb, ne-eqb}
 use Rattle.table.specs.Limits.{Limits}
 use Rattle.parts.specs.Part.{Part, PartArms}
 use Rattle.parts.specs.Layout.{size, sizeArms, nextArm}
-use Rattle.session.specs.Block.{PartRow, End, Arm, Loop, Back, Send, Receive, partRow, blockRows, isArm, isLoop, isHead, label}
-use Rattle.session.specs.Head.{head}
-use Rattle.session.specs.Tables.{toArm, rowHolds, rowGood}
+use Rattle.blocks.specs.Block.{PartRow, End, Arm, Loop, Back, Send, Receive, partRow, blockRows, isArm, isLoop, isHead, label}
+use Rattle.blocks.specs.Head.{head}
+use Rattle.blocks.specs.Tables.{toArm, rowHolds, rowGood}
 use Rattle.protocol.proofs.Parts.Fits.{HeadBack}
-use Rattle.protocol.proofs.Parts.Sound.{SomePart, some-part, Before, b-arm, Sound, s-send, s-receive, s-loop, s-back, SoundArms, s-arm}
+use Rattle.parts.proofs.Rising.{Above, label as next-label}
+use Rattle.protocol.proofs.Parts.Sound.{SomePart, some-part, Sound, s-send, s-receive, s-loop, s-back, SoundArms, s-arm}
 use Rattle.protocol.proofs.Start.Begins.{deeper}
 use Rattle.protocol.proofs.Blocks.Laid.{Laid, l-end, l-send, l-receive, l-loop, l-back, LaidArms, l-nil, l-arm}
 use Rattle.protocol.proofs.Blocks.Leads.{Leads, leads-here, leads-head, Around, around-new, around-loop, raise, settle, lead}
@@ -68,11 +69,11 @@ module _ (lim : Limits) (ts : List ℕ) (roles r : ℕ) where
 
   -- the next arm of an arm: none, or one with a greater label
   next-holds : (i j l : ℕ) {around : List ℕ} {ps : PartArms} → i < j → j + sizeArms ps ≤ blockRows ts roles
-      → LaidArms (partRow ts roles r) j around ps → Before l ps
+      → LaidArms (partRow ts roles r) j around ps → Above l ps
       → (eqb (nextArm j ps) 0 || (toArm ts roles r i (nextArm j ps) && ltb l (label (partRow ts roles r (nextArm j ps))))) ≡ true
   unfolding nextArm size
   next-holds i j l h fits l-nil b = refl
-  next-holds i j l h fits (l-arm {l = k} e body arms) (b-arm less b) =
+  next-holds i j l h fits (l-arm {l = k} e body arms) (next-label less b) =
       rw (lt-ltb i j h, lt-ltb j (blockRows ts roles) (omega arith), e, lt-ltb l k less) (or-true (eqb j 0))
 
   arm-holds : (i l n : ℕ) → 0 < i → l < lim .labels → suc i < blockRows ts roles → isArm (partRow ts roles r (suc i)) ≡ false

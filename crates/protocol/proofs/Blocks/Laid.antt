@@ -1,7 +1,7 @@
 -- The rows of a part as it is laid out in a block, row by row. Assumes nothing.
 use Prim.Native.Nat.{ℕ, suc, _+_, _*_, _≤_, _<_}
 use mathlib.Core.List.{List, _∷_, _++_, append-assoc}
-use mathlib.Core.Path.{_≡_, refl, sym, _∙_, ap}
+use mathlib.Core.Path.{_≡_, sym, _∙_, ap}
 use native.Mathlib.Omega.{arith}
 use lib.ListN.{getD, length, length-append}
 use lib.Seq.{getD-append-add}
@@ -9,7 +9,7 @@ use Rattle.words.specs.Rows.{word}
 use Rattle.parts.specs.Part.{Part, p-end, p-send, p-receive, p-loop, p-back, PartArms, p-nil, p-arm}
 use Rattle.parts.specs.Layout.{size, sizeArms, four, nextArm, layout, layoutArms}
 use Rattle.parts.proofs.Lengths.{length-layout}
-use Rattle.session.specs.Block.{PartRow, End, Arm, Loop, Back, Send, Receive, partRowOf}
+use Rattle.blocks.specs.Block.{PartRow, End, Arm, Loop, Back, Send, Receive, partRowOf}
 
 -- row i of a list of words
 abbrev pub rowAt : List ℕ → ℕ → PartRow

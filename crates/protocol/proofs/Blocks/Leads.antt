@@ -8,8 +8,8 @@ use native.Mathlib.Omega.{arith}
 use lib.ListN.{getD, length}
 use Rattle.parts.specs.Part.{Part}
 use Rattle.parts.specs.Layout.{size}
-use Rattle.session.specs.Block.{PartRow, End, Arm, Loop, Back, Send, Receive, Other, partRow, isHead, isLoop}
-use Rattle.session.specs.Head.{onward, follow}
+use Rattle.blocks.specs.Block.{PartRow, End, Arm, Loop, Back, Send, Receive, Other, partRow, isHead, isLoop}
+use Rattle.blocks.specs.Head.{onward, follow}
 use Rattle.protocol.proofs.Parts.Fits.{HeadBack, hb-back}
 use Rattle.protocol.proofs.Parts.Sound.{Sound, s-loop, s-back}
 use Rattle.protocol.proofs.Start.Begins.{deeper}

@@ -1,15 +1,14 @@
 -- What an accepted opening says: the table's rules hold, and every role has a part. Assumes nothing.
-use Prim.Native.Nat.{ℕ, _*_, _%_, _≤_, _<_}
-use mathlib.Core.Bool.{Bool, true, false, cond, _||_, not, true≢false}
+use Prim.Native.Nat.{ℕ, _*_, _≤_, _<_}
+use mathlib.Core.Bool.{Bool, true, false, cond, not, true≢false}
 use mathlib.Core.List.{List, [], _∷_}
 use mathlib.Core.Logic.{_≢_}
 use mathlib.Core.Option.{Option, none, some}
 use mathlib.Core.Path.{_≡_, refl, sym, _∙_, ap}
-use native.Mathlib.Nat.{div-add-mod'}
 use native.Mathlib.Omega.{arith}
-use lib.Dec.{ltb, eqb}
+use lib.Dec.{ltb}
 use lib.ListN.{length}
-use borrow.Author.Tests.{lt-ltb, ltb-false, eqb-true, eqb-false, not-false}
+use borrow.Author.Tests.{lt-ltb}
 use Rattle.words.specs.Below.{lowest}
 use Rattle.words.specs.Rows.{rowsOf}
 use Rattle.words.proofs.Below.{Lowest, found, nowhere, lowest-is}

@@ -8,7 +8,7 @@ use mathlib.Core.Path.{_≡_, refl, sym, _∙_, ap}
 use native.Mathlib.Decide.{decLt}
 use native.Mathlib.Nat.{zero-mul, mul-le-mul-right, div-eq-of-eq-mul-left, eq-or-lt-of-le, le-of-suc-le-suc}
 use native.Mathlib.Omega.{arith}
-use lib.ListN.{getD, length, replicate, length-append, length-replicate, List·getD-append}
+use lib.ListN.{getD, length, replicate, length-append, List·getD-append}
 use lib.Seq.{getD-append-add}
 use borrow.Author.Tests.{lt-ltb, le-leb, eq-eqb}
 use Rattle.words.specs.Rows.{word, rowsOf}
@@ -20,11 +20,11 @@ use Rattle.parts.specs.Part.{Part}
 use Rattle.parts.specs.Layout.{size, layout, block, blockOf}
 use Rattle.parts.specs.Projection.{partOf}
 use Rattle.opening.specs.Opening.{blocks}
-use Rattle.session.specs.Block.{End, partRow, blockRows}
-use Rattle.session.specs.Head.{head}
-use Rattle.session.specs.Tables.{rowGood, tablesGood}
+use Rattle.blocks.specs.Block.{End, partRow, blockRows}
+use Rattle.blocks.specs.Head.{head}
+use Rattle.blocks.specs.Tables.{rowGood, tablesGood}
 use Rattle.protocol.proofs.Parts.Sound.{Sound, projected-sound}
-use Rattle.parts.proofs.Lengths.{length-layout}
+use Rattle.parts.proofs.Lengths.{length-layout, length-block}
 use Rattle.parts.proofs.Rising.{holds-some}
 use Rattle.parts.proofs.Laws.{part-size}
 use Rattle.protocol.proofs.Start.Encodes.{Encodes, Heads}
@@ -43,11 +43,6 @@ pub record TreeKept (lim : Limits) (t : List ℕ) (roles : ℕ) : Type 0 where
   pub fits : rowsIn {A = ℕ} (treeOf t) ≤ rowsOf t
 
 -- ---- words of a block
-
-length-block : (n : ℕ) (P : Part) → size P * 4 ≤ n → length (block n P) ≡ n
-unfolding block
-length-block n P h =
-    let e : length (layout 0 [] P) ≡ size P * 4 = length-layout P 0 [] in rw (length-append, length-replicate) (omega arith)
 
 pub zeros : (m j : ℕ) → _≡_ {A = ℕ} (getD (replicate m 0) j 0) 0
 zeros zero j = refl

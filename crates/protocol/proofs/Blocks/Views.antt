@@ -12,9 +12,9 @@ use Rattle.table.specs.Limits.{Limits}
 use Rattle.table.proofs.Tests.{both}
 use Rattle.parts.specs.Part.{Part, PartArms}
 use Rattle.parts.specs.Layout.{size, sizeArms, nextArm}
-use Rattle.session.specs.Block.{PartRow, End, Arm, Loop, Back, Send, Receive, Other, partRow, blockRows, isArm, isHead}
-use Rattle.session.specs.Head.{onward, follow, head, hasHead, armThen, chain, armsOf}
-use Rattle.session.specs.Tables.{rowHolds, rowGood}
+use Rattle.blocks.specs.Block.{PartRow, End, Arm, Loop, Back, Send, Receive, Other, partRow, blockRows, isArm, isHead}
+use Rattle.blocks.specs.Head.{onward, follow, head, hasHead, armThen, chain, armsOf}
+use Rattle.blocks.specs.Tables.{rowHolds, rowGood}
 use Rattle.protocol.proofs.Invariant.View.{View, v-end, v-send, v-receive, v-loop, v-back}
 use Rattle.protocol.proofs.Parts.Sound.{SomePart, some-part, Sound, s-send, s-receive, s-loop, s-back, SoundArms, s-arm}
 use Rattle.protocol.proofs.Start.Encodes.{

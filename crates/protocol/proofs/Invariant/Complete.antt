@@ -7,7 +7,7 @@ use mathlib.Core.Path.{_≡_, refl}
 use native.Mathlib.Decide.{ℕ-discrete}
 use Rattle.table.specs.Kept.{HasLabel, has-here, has-there}
 use Rattle.table.specs.Tree.{Global, exchange, flight, Arms, nil, arm}
-use Rattle.session.specs.Head.{ArmAt, find}
+use Rattle.blocks.specs.Head.{ArmAt, find}
 use Rattle.protocol.specs.Steps.{send, receive, ArmOf, here, there, Step, rule-1, rule-2, rule-3, rule-4, rule-5, Steps, no-arm, each-arm}
 use Rattle.protocol.proofs.Invariant.View.{View, v-send, v-receive, end≢send, end≢receive, send≢receive, same-send, same-receive}
 use Rattle.protocol.proofs.Invariant.Covers.{

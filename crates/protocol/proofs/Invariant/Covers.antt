@@ -7,7 +7,7 @@ use mathlib.Core.Option.{some}
 use mathlib.Core.Path.{_≡_}
 use Rattle.table.specs.Kept.{HasLabel}
 use Rattle.table.specs.Tree.{Global, end, exchange, flight, loop, back, Arms, nil, arm}
-use Rattle.session.specs.Head.{ArmAt, find}
+use Rattle.blocks.specs.Head.{ArmAt, find}
 use Rattle.protocol.specs.Steps.{SomeArm}
 use Rattle.protocol.specs.Unrolled.{unrolled}
 use Rattle.protocol.proofs.Invariant.View.{View, v-end, v-send, v-receive}

@@ -7,7 +7,7 @@ use mathlib.Core.Option.{some}
 use mathlib.Core.Path.{_≡_, refl}
 use native.Mathlib.Omega.{arith}
 use Rattle.table.specs.Tree.{Global, exchange, flight, loop, Arms, arm}
-use Rattle.session.specs.Head.{ArmAt, find}
+use Rattle.blocks.specs.Head.{ArmAt, find}
 use Rattle.protocol.specs.Steps.{Action, send, receive, subject, here, SomeArm, some-arm, Step, rule-1, rule-2, rule-3}
 use Rattle.protocol.specs.Unrolled.{unrolled}
 use Rattle.protocol.proofs.Invariant.View.{View, v-end, v-receive, Does, of-send, of-receive, same-receive}

@@ -5,7 +5,7 @@ use mathlib.Core.List.{List}
 use mathlib.Core.Option.{Option, some}
 use mathlib.Core.Path.{_≡_, refl}
 use native.Mathlib.Omega.{arith}
-use Rattle.session.specs.Head.{ArmAt, find}
+use Rattle.blocks.specs.Head.{ArmAt, find}
 use Rattle.protocol.specs.Steps.{Action, send, receive}
 
 pub data View : Type 0 where

@@ -9,12 +9,14 @@ use native.Mathlib.Decide.{ℕ-discrete, decLe}
 use native.Mathlib.Omega.{arith}
 use lib.Dec.{eqb}
 use borrow.Author.Tests.{eq-eqb, ne-eqb, le-leb, lt-leb, eqb-true}
-use Rattle.table.specs.Kept.{Inside, i-exchange, i-loop, i-back, InsideArms, i-arm, HasLabel, has-here, has-there, Good, g-end, g-exchange, g-flight, g-loop, g-back, GoodArms, g-nil, g-arm, Ranged, r-exchange, r-loop, RangedArms, r-arm}
+use Rattle.table.specs.Kept.{Inside, i-exchange, i-loop, i-back, InsideArms, i-arm, Good, g-end, g-exchange, g-flight, g-loop, g-back, GoodArms, g-nil, g-arm, Ranged, r-exchange, r-loop, RangedArms, r-arm}
 use Rattle.table.specs.Tree.{Global, loop, Arms, nil, arm}
 use Rattle.parts.specs.Part.{Part, p-end, p-send, p-receive, p-loop, p-back, PartArms, p-nil, p-arm, insert, rising, without}
 use Rattle.parts.specs.Absent.{takesPart, leaves}
 use Rattle.parts.specs.Merge.{merge}
 use Rattle.parts.specs.Projection.{mergeFrom, mergeAll, part, partArms}
+use Rattle.parts.proofs.Rising.{no-label, label, Above, Lacks, above-lacks, above-above, insert-labels, without-labels, rising-labels, holds-some}
+use Rattle.parts.proofs.Laws.{labels-kept}
 use Rattle.protocol.proofs.Parts.Arms.{none≢some, some-injective, bind-some, At, at-here, at-there, at-armOf}
 use Rattle.protocol.proofs.Parts.Merged.{Merged, m-end, m-send, m-receive, m-loop, m-back, MergedArms, m-rest, m-alone, m-shared, merged}
 use Rattle.protocol.proofs.Parts.Within.{_⊑_, w-back, w-loop, within-merge}
@@ -23,16 +25,6 @@ use Rattle.protocol.proofs.Parts.Projected.{projected-fits}
 
 pub data SomePart : PartArms → Type 0 where
   some-part : {l : ℕ} {P : Part} {ps : PartArms} → SomePart (p-arm l P ps)
-
--- l is less than every label
-pub data Before (l : ℕ) : PartArms → Type 0 where
-  b-nil : Before l p-nil
-  b-arm : {k : ℕ} {Q : Part} {qs : PartArms} → l < k → Before l qs → Before l (p-arm k Q qs)
-
--- l is no label
-pub data Lacks (l : ℕ) : PartArms → Type 0 where
-  l-nil : Lacks l p-nil
-  l-arm : {k : ℕ} {Q : Part} {qs : PartArms} → l ≢ k → Lacks l qs → Lacks l (p-arm k Q qs)
 
 -- of so many roles and labels, for role r, inside d loops
 mutual
@@ -47,63 +39,14 @@ mutual
   pub data SoundArms (roles labels r : ℕ) : ℕ → PartArms → Type 0 where
     s-nil : {d : ℕ} → SoundArms roles labels r d p-nil
     s-arm : {d l : ℕ} {P : Part} {ps : PartArms}
-        → l < labels → Before l ps → Sound roles labels r d P → SoundArms roles labels r d ps → SoundArms roles labels r d (p-arm l P ps)
+        → l < labels → Above l ps → Sound roles labels r d P → SoundArms roles labels r d ps → SoundArms roles labels r d (p-arm l P ps)
 
 -- ---- labels
 
-before-less : {l k : ℕ} {qs : PartArms} → l < k → Before k qs → Before l qs
-before-less h b-nil = b-nil
-before-less h (b-arm {k = j} i b) = b-arm {k = j} (omega arith) (before-less h b)
-
-before-lacks : {l : ℕ} {qs : PartArms} → Before l qs → Lacks l qs
-before-lacks b-nil = l-nil
-before-lacks {l} (b-arm {k = k} h b) = let n : l ≢ k = omega arith in l-arm n (before-lacks b)
-
-before-insert : {l k : ℕ} (P : Part) {qs : PartArms} → k < l → Before k qs → Before k (insert l P qs)
-unfolding insert
-before-insert P h b-nil = b-arm h b-nil
-before-insert {l} {k} P h (b-arm {k = j} {Q = Q} {qs = qs} i b) = go (decLe l j) (before-insert P h b)
-  where
-    go : Dec (l ≤ j) → Before k (insert l P qs) → Before k (insert l P (p-arm j Q qs))
-    go (yes t) ih = rw (le-leb l j t) (b-arm h (b-arm i b))
-    go (no t) ih = rw (lt-leb l j (omega arith)) (b-arm i ih)
-
-lacks-insert : {l k : ℕ} (P : Part) {qs : PartArms} → l ≢ k → Lacks l qs → Lacks l (insert k P qs)
-unfolding insert
-lacks-insert P n l-nil = l-arm n l-nil
-lacks-insert {l} {k} P n (l-arm {k = j} {Q = Q} {qs = qs} m b) = go (decLe k j) (lacks-insert P n b)
-  where
-    go : Dec (k ≤ j) → Lacks l (insert k P qs) → Lacks l (insert k P (p-arm j Q qs))
-    go (yes t) ih = rw (le-leb k j t) (l-arm n (l-arm m b))
-    go (no t) ih = rw (lt-leb k j (omega arith)) (l-arm m ih)
-
-lacks-rising : {l : ℕ} {ps : PartArms} → Lacks l ps → Lacks l (rising ps)
-unfolding rising
-lacks-rising l-nil = l-nil
-lacks-rising (l-arm {Q = Q} n b) = lacks-insert Q n (lacks-rising b)
-
-lacks-without : {l : ℕ} (k : ℕ) {qs : PartArms} → Lacks l qs → Lacks l (without k qs)
-unfolding without
-lacks-without k l-nil = l-nil
-lacks-without {l} k (l-arm {k = j} {Q = Q} {qs = qs} n b) = go (ℕ-discrete k j) (lacks-without k b)
-  where
-    go : Dec (k ≡ j) → Lacks l (without k qs) → Lacks l (without k (p-arm j Q qs))
-    go (yes e) ih = rw (eq-eqb k j e) b
-    go (no m) ih = rw (ne-eqb k j m) (l-arm n ih)
-
-before-without : {l : ℕ} (k : ℕ) {qs : PartArms} → Before l qs → Before l (without k qs)
-unfolding without
-before-without k b-nil = b-nil
-before-without {l} k (b-arm {k = j} {Q = Q} {qs = qs} h b) = go (ℕ-discrete k j) (before-without k b)
-  where
-    go : Dec (k ≡ j) → Before l (without k qs) → Before l (without k (p-arm j Q qs))
-    go (yes e) ih = rw (eq-eqb k j e) b
-    go (no m) ih = rw (ne-eqb k j m) (b-arm h ih)
-
 lacks-merge : {l : ℕ} {ps qs ms : PartArms} → MergedArms ps qs ms → Lacks l ps → Lacks l qs → Lacks l ms
 lacks-merge m-rest a b = b
-lacks-merge (m-alone {l = k} {P = P} has m e) (l-arm n a) b = rw e (lacks-insert P n (lacks-merge m a (lacks-without k b)))
-lacks-merge (m-shared {l = k} {M = M} has one m e) (l-arm n a) b = rw e (lacks-insert M n (lacks-merge m a (lacks-without k b)))
+lacks-merge (m-alone {l = k} {P = P} has m e) (label n a) b = rw e (insert-labels k P n (lacks-merge m a (without-labels k b)))
+lacks-merge (m-shared {l = k} {M = M} has one m e) (label n a) b = rw e (insert-labels k M n (lacks-merge m a (without-labels k b)))
 
 -- ---- arms put in and taken out
 
@@ -120,13 +63,13 @@ module _ (roles labels r : ℕ) where
   sound-insert : {d l : ℕ} {P : Part} {qs : PartArms} → l < labels → Sound roles labels r d P → SoundArms roles labels r d qs → Lacks l qs
       → SoundArms roles labels r d (insert l P qs)
   unfolding insert
-  sound-insert h s s-nil l-nil = s-arm h b-nil s s-nil
-  sound-insert {d} {l} {P} h s (s-arm {l = k} {P = Q} {ps = qs} h′ b t ts) (l-arm n m) = go (decLe l k) (sound-insert h s ts m)
+  sound-insert h s s-nil no-label = s-arm h no-label s s-nil
+  sound-insert {d} {l} {P} h s (s-arm {l = k} {P = Q} {ps = qs} h′ b t ts) (label n m) = go (decLe l k) (sound-insert h s ts m)
     where
       go : Dec (l ≤ k) → SoundArms roles labels r d (insert l P qs) → SoundArms roles labels r d (insert l P (p-arm k Q qs))
       go (yes i) ih =
-          let less : l < k = omega arith in rw (le-leb l k i) (s-arm h (b-arm less (before-less less b)) s (s-arm h′ b t ts))
-      go (no i) ih = let less : k < l = omega arith in rw (lt-leb l k less) (s-arm h′ (before-insert P less b) t ih)
+          let less : l < k = omega arith in rw (le-leb l k i) (s-arm h (label less (above-above less b)) s (s-arm h′ b t ts))
+      go (no i) ih = let less : k < l = omega arith in rw (lt-leb l k less) (s-arm h′ (insert-labels l P less b) t ih)
 
   sound-without : {d : ℕ} (k : ℕ) {qs : PartArms} → SoundArms roles labels r d qs → SoundArms roles labels r d (without k qs)
   unfolding without
@@ -135,17 +78,17 @@ module _ (roles labels r : ℕ) where
     where
       go : Dec (k ≡ j) → SoundArms roles labels r d (without k qs) → SoundArms roles labels r d (without k (p-arm j Q qs))
       go (yes e) ih = rw (eq-eqb k j e) ts
-      go (no n) ih = rw (ne-eqb k j n) (s-arm h (before-without k b) t ih)
+      go (no n) ih = rw (ne-eqb k j n) (s-arm h (without-labels k b) t ih)
 
   -- labels rise, so none stands twice
   sound-lacks : {d : ℕ} (k : ℕ) {qs : PartArms} → SoundArms roles labels r d qs → Lacks k (without k qs)
   unfolding without
-  sound-lacks k s-nil = l-nil
+  sound-lacks k s-nil = no-label
   sound-lacks {d} k (s-arm {l = j} {P = Q} {ps = qs} h b t ts) = go (ℕ-discrete k j) (sound-lacks k ts)
     where
       go : Dec (k ≡ j) → Lacks k (without k qs) → Lacks k (without k (p-arm j Q qs))
-      go (yes e) ih = rw (eq-eqb k j e, e) (before-lacks b)
-      go (no n) ih = rw (ne-eqb k j n) (l-arm n ih)
+      go (yes e) ih = rw (eq-eqb k j e, e) (above-lacks b)
+      go (no n) ih = rw (ne-eqb k j n) (label n ih)
 
   sound-at : {d l : ℕ} {P : Part} {qs : PartArms} → SoundArms roles labels r d qs → At l P qs → Sound roles labels r d P
   sound-at (s-arm h b t ts) (at-here e) = t
@@ -176,10 +119,10 @@ module _ (roles labels r : ℕ) where
     sound-mergeArms m-rest ss ts = ts
     sound-mergeArms (m-alone {l = l} lacks m e) (s-arm h b s ss) ts =
         rw e (sound-insert roles labels r h s (sound-mergeArms m ss (sound-without roles labels r l ts))
-        (lacks-merge m (before-lacks b) (sound-lacks roles labels r l ts)))
+        (lacks-merge m (above-lacks b) (sound-lacks roles labels r l ts)))
     sound-mergeArms (m-shared {l = l} {qs = qs} has one m e) (s-arm h b s ss) ts =
         rw e (sound-insert roles labels r h (sound-merge one s (sound-at roles labels r ts (at-armOf l qs has)))
-        (sound-mergeArms m ss (sound-without roles labels r l ts)) (lacks-merge m (before-lacks b) (sound-lacks roles labels r l ts)))
+        (sound-mergeArms m ss (sound-without roles labels r l ts)) (lacks-merge m (above-lacks b) (sound-lacks roles labels r l ts)))
 
   -- arms in the order of a chain: no label stands twice
   data Distinct : ℕ → PartArms → Type 0 where
@@ -190,7 +133,7 @@ module _ (roles labels r : ℕ) where
   sound-rising : {d : ℕ} {ps : PartArms} → Distinct d ps → SoundArms roles labels r d (rising ps)
   unfolding rising
   sound-rising d-nil = s-nil
-  sound-rising (d-arm h n s ds) = sound-insert roles labels r h s (sound-rising ds) (lacks-rising n)
+  sound-rising (d-arm h n s ds) = sound-insert roles labels r h s (sound-rising ds) (rising-labels n)
 
   sound-from : {d : ℕ} {P M : Part} {ps : PartArms} → Sound roles labels r d P → Distinct d ps → mergeFrom P ps ≡ some M → Sound roles labels r d M
   unfolding mergeFrom
@@ -204,15 +147,6 @@ module _ (roles labels r : ℕ) where
   sound-all (d-arm h n s ds) e = sound-from s ds e
 
 -- ---- projection
-
-lacks-arms : {A : Type 0} {l : ℕ} (r : ℕ) (cs : Arms A) (ps : PartArms) → ¬ HasLabel l cs → partArms r cs ≡ some ps → Lacks l ps
-unfolding part
-lacks-arms r nil ps h e = rw (← some-injective e) l-nil
-lacks-arms {l = l} r (arm k G cs) ps h e =
-    let (P, f, g) = bind-some (part r G) _ e in
-    let (qs, i, j) = bind-some (partArms r cs) _ g in
-    let n : l ≢ k = λ e′. h (rw e′ (has-here {l = k} {G = G} {cs = cs})) in
-    rw (← some-injective j) (l-arm n (lacks-arms r cs qs (λ b. h (has-there b)) i))
 
 some-rising : {ps : PartArms} → SomePart ps → SomePart (rising ps)
 unfolding rising
@@ -267,4 +201,4 @@ module _ (roles labels r : ℕ) where
     projected-arms ps (g-arm {G = G} {cs = cs} n g gs) (r-arm h t ts) (i-arm i is) e =
         let (P, f, k) = bind-some (part r G) _ e in
         let (qs, j, m) = bind-some (partArms r cs) _ k in
-        rw (← some-injective m) (d-arm h (lacks-arms r cs qs n j) (projected-sound P g t i f) (projected-arms qs gs ts is j))
+        rw (← some-injective m) (d-arm h (holds-some (labels-kept r cs n) j) (projected-sound P g t i f) (projected-arms qs gs ts is j))

@@ -1,8 +1,8 @@
 -- A role is awaited exactly when it has a call that would be accepted. Assumes nothing.
-use Prim.Native.Nat.{ℕ, zero, suc, _<_}
+use Prim.Native.Nat.{ℕ, _<_}
 use mathlib.Core.Bool.{true, true≢false}
 use mathlib.Core.List.{List}
-use mathlib.Core.Option.{Option, none, some}
+use mathlib.Core.Option.{some}
 use mathlib.Core.Path.{_≡_, refl, sym, _∙_, ap}
 use native.Mathlib.Omega.{arith}
 use lib.Dec.{ltb}
@@ -11,19 +11,20 @@ use Rattle.table.specs.Limits.{Limits}
 use Rattle.table.specs.Numbers.{ACCEPTED}
 use Rattle.table.specs.Tree.{Global}
 use Rattle.table.proofs.Tests.{both}
-use Rattle.session.specs.Block.{PartRow, End, Arm, Loop, Back, Send, Receive, Other, partRow, blockRows, isArm}
-use Rattle.session.specs.Head.{armsOf, chain, find}
-use Rattle.session.specs.State.{headOf, held, labelAt, payloadAt}
-use Rattle.session.specs.Awaited.{isFound, canAct, isAwaited}
+use Rattle.blocks.specs.Block.{PartRow, End, Arm, Loop, Back, Send, Receive, Other, partRow, blockRows}
+use Rattle.blocks.specs.Head.{armsOf, find}
+use Rattle.blocks.specs.Tables.{rowHolds}
+use Rattle.state.specs.Awaited.{isFound, canAct}
+use Rattle.session.specs.State.{listed, headOf, held, labelAt, payloadAt}
+use Rattle.session.specs.Awaited.{isAwaited}
 use Rattle.session.specs.declared.Answer.{Answer}
 use Rattle.session.specs.declared.Session.{Session}
-use Rattle.session.specs.Tables.{rowHolds}
+use Rattle.session.proofs.Accepted.{is-found, arm-first, found-first}
 use Rattle.protocol.specs.Steps.{send, receive}
 use Rattle.protocol.specs.Engine.{Call, sends, receives, caller, answerTo, ours}
 use Rattle.protocol.specs.Demand3.{HasCall}
-use Rattle.protocol.proofs.Start.Encodes.{find-here}
 use Rattle.protocol.proofs.Invariant.View.{Does, does-send, does-receive, of-send, of-receive}
-use Rattle.protocol.proofs.Blocks.Views.{look, chain-arm}
+use Rattle.protocol.proofs.Blocks.Views.{look}
 use Rattle.protocol.proofs.Sessions.Walks.{holds, send-row}
 use Rattle.protocol.proofs.Sessions.Calls.{
   standsAt,
@@ -39,26 +40,6 @@ use Rattle.protocol.proofs.Sessions.Calls.{
   receive-accepted,
 }
 use Rattle.protocol.proofs.Sessions.Runs.{Ground, Inv, the-send, the-receive}
-
-arm-of : (w : PartRow) → isArm w ≡ true → (l : ℕ) × (c : ℕ) × (n : ℕ) × (w ≡ Arm l c n)
-arm-of (End a b c) e = absurd (true≢false (sym e))
-arm-of (Arm l c n) e = (l, c, n, refl)
-arm-of (Loop b x y) e = absurd (true≢false (sym e))
-arm-of (Back j x y) e = absurd (true≢false (sym e))
-arm-of (Send q f x) e = absurd (true≢false (sym e))
-arm-of (Receive q f x) e = absurd (true≢false (sym e))
-arm-of Other e = absurd (true≢false (sym e))
-
-some-found : (o : Option ℕ) → isFound o ≡ true → (c : ℕ) × (o ≡ some c)
-some-found none e = absurd (true≢false (sym e))
-some-found (some c) e = (c, refl)
-
--- the first arm of a chain is found
-first-found : (ts : List ℕ) (roles r : ℕ) → r < roles → (n f l c m : ℕ) → 0 < n → 0 < f → partRow ts roles r f ≡ Arm l c m
-    → find l (chain n ts roles r f) ≡ some c
-first-found ts roles r present zero f l c m h i e = absurd (omega arith)
-first-found ts roles r present (suc n) f l c m h i e =
-    ap (find l) (chain-arm ts roles r present n f l c m i e) ∙ find-here l l c (chain n ts roles r m) refl
 
 module _ (lim : Limits) (ts : List ℕ) (roles : ℕ) (ground : Ground lim ts roles) (s : Session) (G : Global ℕ) (inv : Inv lim ts roles s G) where
   pub send-is-accepted : {p q l v : ℕ} {a : Answer} → SendCase lim ts roles s p q l v a → (c : ℕ) → Does (send p q l v) (standsAt lim ts roles s p) c
@@ -102,7 +83,7 @@ module _ (lim : Limits) (ts : List ℕ) (roles : ℕ) (ground : Ground lim ts ro
 
   -- ---- who is awaited has a call
 
-  awaited-call : (r : ℕ) → r < roles → (w : PartRow) → partRow ts roles r (headOf s r) ≡ w → canAct lim ts roles s r w ≡ true
+  awaited-call : (r : ℕ) → r < roles → (w : PartRow) → partRow ts roles r (headOf s r) ≡ w → canAct lim ts roles (listed s) r w ≡ true
       → HasCall (ours lim ts roles) s r
   unfolding canAct answerTo
   awaited-call r h (End a b c) e t = absurd (true≢false (sym t))
@@ -114,15 +95,15 @@ module _ (lim : Limits) (ts : List ℕ) (roles : ℕ) (ground : Ground lim ts ro
       let row : rowHolds lim ts roles r (headOf s r) (Send q f x) ≡ true =
       rw e at (holds lim ts roles r (λ y i. ground .good r y h i) (headOf s r) (inv .kept .heads-in r h)) in
       let act = send-row lim ts roles r (headOf s r) q f x row in
-      let (l, c, n, w) = arm-of (partRow ts roles r f) (act .first-is) in
+      let (l, c, n, w) = arm-first (partRow ts roles r f) (act .first-is) in
       let found : find l (armsOf ts roles r f) ≡ some c =
-      first-found ts roles r h (blockRows ts roles) f l c n (omega (arith, act .first-in)) (omega (arith, act .first-above)) w in
+      found-first ts roles r l c n (blockRows ts roles) f (omega (arith, act .first-in)) (omega (arith, act .first-above)) w in
       let d : Does {A = ℕ} (send r q l 0) (standsAt lim ts roles s r) c = rw at (does-send {q = q} {arms = armsOf ts roles r f} found) in
       (sends r q l 0, refl, send-is-accepted (the-send lim ts roles ground s G inv r q l 0) c d (ltb-true (held lim s r q) (lim .depth) t))
   awaited-call r h (Receive p f x) e t =
       let at = stands-at r (Receive p f x) h e in
       let (t₁, t₂) = both (ltb 0 (held lim s p r)) (isFound (find (labelAt lim s p r 0) (armsOf ts roles r f))) t in
-      let (c, found) = some-found (find (labelAt lim s p r 0) (armsOf ts roles r f)) t₂ in
+      let (c, found) = is-found (find (labelAt lim s p r 0) (armsOf ts roles r f)) t₂ in
       let d : Does {A = ℕ} (receive p r (labelAt lim s p r 0) (payloadAt lim s p r 0)) (standsAt lim ts roles s r) c =
       rw at (does-receive {p = p} {arms = armsOf ts roles r f} found) in
       let ok = receive-is-accepted (the-receive lim ts roles ground s G inv p r) _ _ c d (ltb-true 0 (held lim s p r) t₁) in

@@ -11,11 +11,12 @@ use lib.Dec.{leb, eqb}
 use borrow.Author.Tests.{eqb-true, eqb-false, leb-true, leb-false, le-ltb}
 use Rattle.table.specs.Limits.{Limits}
 use Rattle.table.specs.Numbers.{ACCEPTED}
-use Rattle.session.specs.Numbers.{TABLES, STATE, PARTY, TURN, LABEL, FULL, EMPTY, STRAY}
-use Rattle.session.specs.Block.{PartRow, End, Arm, Loop, Back, Send, Receive, Other, partRow, blockRows}
-use Rattle.session.specs.Head.{ArmAt, head, armsOf, find}
-use Rattle.session.specs.Tables.{rowGood, tablesGood}
-use Rattle.session.specs.State.{headOf, held, labelAt, payloadAt, arePair, moved, pushed, taken}
+use Rattle.blocks.specs.Block.{PartRow, End, Arm, Loop, Back, Send, Receive, Other, partRow, blockRows}
+use Rattle.blocks.specs.Head.{ArmAt, head, armsOf, find}
+use Rattle.blocks.specs.Tables.{rowGood, tablesGood}
+use Rattle.state.specs.Numbers.{TABLES, STATE, PARTY, TURN, LABEL, FULL, EMPTY, STRAY}
+use Rattle.state.specs.State.{arePair}
+use Rattle.session.specs.State.{headOf, held, labelAt, payloadAt, moved, pushed, taken}
 use Rattle.session.specs.Calls.{answers, unless, sendArm, sendAt, sendOf, receiveArm, receiveAt, receiveOf}
 use Rattle.session.specs.declared.Answer.{Answer}
 use Rattle.session.specs.declared.Session.{Session}

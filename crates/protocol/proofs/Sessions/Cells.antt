@@ -9,7 +9,8 @@ use native.Mathlib.Omega.{arith}
 use lib.ListN.{getD, length, set, take, drop, length-append, length-take, length-drop, List·getD-append, List·getD-eq-default}
 use lib.Seq.{getD-append-add, getD-set-same, getD-set-other, getD-take, getD-drop, sets, sets-eq, length-take-le}
 use Rattle.table.specs.Limits.{Limits}
-use Rattle.session.specs.State.{pair, slot, slots, forward}
+use Rattle.state.specs.State.{pair, slot}
+use Rattle.session.specs.State.{slots, forward}
 
 -- ---- numbers of two digits
 

@@ -6,7 +6,8 @@ use mathlib.Core.List.{List, [], _∷_, _++_}
 use mathlib.Core.Path.{_≡_, refl, sym, _∙_, ap, ap₂}
 use native.Mathlib.Omega.{arith}
 use Rattle.table.specs.Limits.{Limits}
-use Rattle.session.specs.State.{headOf, held, labelAt, payloadAt, arePair, moved, pushed, taken}
+use Rattle.state.specs.State.{arePair}
+use Rattle.session.specs.State.{headOf, held, labelAt, payloadAt, moved, pushed, taken}
 use Rattle.session.specs.declared.Session.{Session}
 use Rattle.protocol.proofs.Invariant.Agree.{put, put-all, putPair, putPair-all, Config}
 use Rattle.protocol.proofs.Sessions.States.{

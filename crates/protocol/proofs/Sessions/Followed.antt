@@ -16,12 +16,14 @@ use Rattle.table.specs.Limits.{Limits}
 use Rattle.table.specs.Numbers.{ACCEPTED}
 use Rattle.table.specs.Tree.{Global}
 use Rattle.table.proofs.Tests.{both}
-use Rattle.session.specs.Numbers.{TABLES, STATE, STRAY}
-use Rattle.session.specs.Block.{PartRow, End, Arm, Loop, Back, Send, Receive, Other, partRow, isHead}
-use Rattle.session.specs.Head.{head}
-use Rattle.session.specs.Tables.{rowHolds}
-use Rattle.session.specs.State.{headOf, held, labelAt, payloadAt, arePair}
-use Rattle.session.specs.Awaited.{canAct, isAwaited, awaitedOf}
+use Rattle.blocks.specs.Block.{PartRow, End, Arm, Loop, Back, Send, Receive, Other, partRow, isHead}
+use Rattle.blocks.specs.Head.{head}
+use Rattle.blocks.specs.Tables.{rowHolds}
+use Rattle.state.specs.Numbers.{TABLES, STATE, STRAY}
+use Rattle.state.specs.State.{arePair}
+use Rattle.state.specs.Awaited.{canAct}
+use Rattle.session.specs.State.{headOf, held, labelAt, payloadAt}
+use Rattle.session.specs.Awaited.{isAwaited, awaitedOf}
 use Rattle.session.specs.declared.Answer.{Answer}
 use Rattle.session.specs.declared.Session.{Session}
 use Rattle.protocol.specs.Steps.{Action, send, receive}

@@ -9,13 +9,14 @@ use mathlib.Core.Path.{_≡_, refl, _∙_, ap}
 use Rattle.table.specs.Limits.{Limits}
 use Rattle.table.specs.Numbers.{ACCEPTED}
 use Rattle.table.specs.Tree.{Global}
-use Rattle.session.specs.Block.{partRow, blockRows, isHead}
-use Rattle.session.specs.Head.{ArmAt, head, find}
-use Rattle.session.specs.Tables.{rowGood, tablesGood}
+use Rattle.blocks.specs.Block.{partRow, blockRows, isHead}
+use Rattle.blocks.specs.Head.{ArmAt, head, find}
+use Rattle.blocks.specs.Tables.{rowGood, tablesGood}
 use Rattle.session.specs.State.{held, labelAt, payloadAt, moved, taken}
 use Rattle.session.specs.Calls.{sendOf, receiveOf}
 use Rattle.session.specs.declared.Answer.{Answer}
 use Rattle.session.specs.declared.Session.{Session}
+use Rattle.blocks.proofs.Sound.{Reached}
 use Rattle.protocol.specs.Steps.{send, receive, Step}
 use Rattle.protocol.specs.Engine.{Call, sends, receives, answerTo, reply, ours}
 use Rattle.protocol.specs.Demand3.{after, stepOf, ComesTo, no-call, accepted-call, refused-call}
@@ -24,7 +25,7 @@ use Rattle.protocol.proofs.Invariant.View.{v-send, v-receive, Does, of-
 use Rattle.protocol.proofs.Invariant.Agree.{m-send, m-receive, Agree, agree-same}
 use Rattle.protocol.proofs.Invariant.Theorems.{completeness, never-stray}
 use Rattle.protocol.proofs.Blocks.Views.{viewOf, has-head}
-use Rattle.protocol.proofs.Sessions.Walks.{Target, found-arm, head-in}
+use Rattle.protocol.proofs.Sessions.Walks.{found-arm, head-in}
 use Rattle.protocol.proofs.Sessions.States.{StateKept, sent-kept, taken-kept}
 use Rattle.protocol.proofs.Sessions.Config.{
   contents,
@@ -73,23 +74,23 @@ module _ (lim : Limits) (ts : List ℕ) (roles : ℕ) (ground : Ground lim ts ro
   at-receive p q arms e = receiving lim ts roles s (ground .tables) (ground .good) (inv .kept) p q arms e
 
   -- where an action leads
-  send-target : (p q l v c : ℕ) → Does (send p q l v) (standsAt lim ts roles s p) c → Target lim ts roles p l c
+  send-target : (p q l v c : ℕ) → Does (send p q l v) (standsAt lim ts roles s p) c → Reached lim ts roles p l c
   send-target p q l v c d =
       let (arms, e, f) = of-send d in
       let at = at-send p q arms e in
       found-arm lim ts roles p (λ x h. ground .good p x (at .pair .sender-in) h) l c (at .first) (at .first-in) (ap (find l) (at .same) ∙ f)
 
-  receive-target : (p q l v c : ℕ) → Does (receive p q l v) (standsAt lim ts roles s q) c → Target lim ts roles q l c
+  receive-target : (p q l v c : ℕ) → Does (receive p q l v) (standsAt lim ts roles s q) c → Reached lim ts roles q l c
   receive-target p q l v c d =
       let (arms, e, f) = of-receive d in
       let at = at-receive p q arms e in
       found-arm lim ts roles q (λ x h. ground .good q x (at .pair .receiver-in) h) l c (at .first) (at .first-in) (ap (find l) (at .same) ∙ f)
 
-  head-of : (r l c : ℕ) → r < roles → Target lim ts roles r l c
+  head-of : (r l c : ℕ) → r < roles → Reached lim ts roles r l c
       → (head ts roles r c < blockRows ts roles) × (isHead (partRow ts roles r (head ts roles r c)) ≡ true)
   head-of r l c h t = (
-    head-in lim ts roles r (λ x i. ground .good r x h i) c (t .row-in),
-    has-head ts roles r h lim (λ x i. ground .good r x h i) c (t .row-in) (t .no-arm),
+    head-in lim ts roles r (λ x i. ground .good r x h i) c (t .inside),
+    has-head ts roles r h lim (λ x i. ground .good r x h i) c (t .inside) (t .no-arm),
   )
 
   -- a role at a receive knows the label that is held for it
@@ -125,7 +126,7 @@ module _ (lim : Limits) (ts : List ℕ) (roles : ℕ) (ground : Ground lim ts ro
       agree-same (viewOf ts roles) (head ts roles) g (sent-rows lim ts roles s k (ground .few-roles) p q two l v x room)
       (sent-queues lim ts roles s k (ground .few-roles) p q two l v x room) in
       accepted G′ refl step (record {
-        kept = sent-kept lim ts roles s k (ground .few-roles) p q two l v x room (t .label-in) within acts;
+        kept = sent-kept lim ts roles s k (ground .few-roles) p q two l v x room (t .low) within acts;
         agrees = g′;
       })
 

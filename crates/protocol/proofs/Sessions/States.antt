@@ -1,23 +1,27 @@
 -- A session's state that is well formed stays so when a message is put in or taken out and its role moves to a head. Assumes nothing.
-use Prim.Native.Nat.{ℕ, zero, suc, pred, _+_, _*_, _≤_, _<_}
+use Prim.Native.Nat.{ℕ, suc, pred, _+_, _*_, _≤_, _<_}
 use mathlib.Core.Bool.{Bool, true, false, cond, _&&_, _||_, not, true≢false}
-use mathlib.Core.List.{List, []}
+use mathlib.Core.List.{List}
 use mathlib.Core.Logic.{_≢_}
 use mathlib.Core.Path.{_≡_, refl, sym, _∙_, ap}
 use native.Mathlib.Decide.{ℕ-discrete, decLt}
 use native.Mathlib.Omega.{arith}
 use lib.Dec.{ltb, eqb}
-use lib.ListN.{getD, length, set, length-append, length-set, length-replicate, List·getD-append}
-use lib.Seq.{getD-at, getD-set-same, getD-set-other, length-sets}
+use lib.ListN.{getD, length, set, length-set, length-replicate}
+use lib.Seq.{getD-set-same, getD-set-other, length-sets}
 use borrow.Author.Tests.{lt-ltb, le-ltb, le-leb, eq-eqb, ne-eqb, ltb-true}
 use Rattle.words.proofs.Below.{every-all}
 use Rattle.table.specs.Limits.{Limits}
 use Rattle.table.proofs.Tests.{both}
-use Rattle.session.specs.Block.{partRow, blockRows, isHead}
-use Rattle.session.specs.Head.{head}
-use Rattle.session.specs.State.{pair, slot, slots, forward, headOf, held, labelAt, payloadAt, nothing, headGood, slotGood, arePair, queueGood, stateGood, moved, pushed, taken}
+use Rattle.blocks.specs.Block.{partRow, blockRows, isHead}
+use Rattle.blocks.specs.Head.{head}
+use Rattle.state.specs.State as lists
+use Rattle.state.specs.State.{pair, slot, headGood, slotGood, arePair, queueGood}
+use Rattle.session.specs.State.{listed, slots, forward, headOf, held, labelAt, payloadAt, nothing, stateGood, moved, pushed, taken}
 use Rattle.session.specs.Calls.{firstHeads}
 use Rattle.session.specs.declared.Session.{Session}
+use Rattle.session.proofs.First.{length-first}
+use Rattle.session.proofs.Kept.{first-at}
 use Rattle.protocol.proofs.Blocks.Tables.{zeros}
 use Rattle.protocol.proofs.Sessions.Cells.{Slots, pair-in, pair-other, set-slot, set-slot-other, set-other, first-taken, last-freed, others-kept}
 
@@ -68,12 +72,12 @@ pub record StateKept (lim : Limits) (ts : List ℕ) (roles : ℕ) (s : Session) 
 
 head-test : (ts : List ℕ) (roles : ℕ) (s : Session) (r : ℕ) → Dec (r < roles)
     → (r < roles → (headOf s r < blockRows ts roles) × (isHead (partRow ts roles r (headOf s r)) ≡ true)) → (roles ≤ r → headOf s r ≡ 0)
-    → headGood ts roles s r ≡ true
+    → headGood ts roles (listed s) r ≡ true
 head-test ts roles s r (yes h) f g = let (a, b) = f h in rw (lt-ltb r roles h, lt-ltb (headOf s r) (blockRows ts roles) a, b)
 head-test ts roles s r (no h) f g = rw (le-ltb r roles (omega arith), eq-eqb (headOf s r) 0 (g (omega arith)))
 
 slot-test : (lim : Limits) (s : Session) (p q k : ℕ) → Dec (k < held lim s p q) → (k < held lim s p q → labelAt lim s p q k < lim .labels)
-    → (held lim s p q ≤ k → (labelAt lim s p q k ≡ 0) × (payloadAt lim s p q k ≡ 0)) → slotGood lim s p q k ≡ true
+    → (held lim s p q ≤ k → (labelAt lim s p q k ≡ 0) × (payloadAt lim s p q k ≡ 0)) → slotGood lim (listed s) p q k ≡ true
 slot-test lim s p q k (yes h) f g = rw (lt-ltb k (held lim s p q) h, lt-ltb (labelAt lim s p q k) (lim .labels) (f h))
 slot-test lim s p q k (no h) f g =
     let (a, b) = g (omega arith) in
@@ -84,19 +88,19 @@ pair-test true n f = refl
 pair-test false n f = eq-eqb n 0 (f refl)
 
 pub state-good : (lim : Limits) (ts : List ℕ) (roles : ℕ) (s : Session) → StateKept lim ts roles s → stateGood lim ts roles s ≡ true
-unfolding stateGood
+unfolding lists.stateGood
 state-good lim ts roles s k =
-    rw (every-all (headGood ts roles s) (lim .roles) (λ r h.
+    rw (every-all (headGood ts roles (listed s)) (lim .roles) (λ r h.
     head-test ts roles s r (decLt r roles) (λ i. (k .heads-in r i, k .heads-act r i)) (λ i. k .heads-none r i h)))
     (every-all _ (lim .roles) (λ p h. every-all _ (lim .roles) (λ q i. queue-test p q h i)))
   where
-    queue-test : (p q : ℕ) → p < lim .roles → q < lim .roles → queueGood lim roles s p q ≡ true
+    queue-test : (p q : ℕ) → p < lim .roles → q < lim .roles → queueGood lim roles (listed s) p q ≡ true
     queue-test p q h i =
         rw (
           le-leb (held lim s p q) (lim .depth) (k .few p q h i),
           pair-test (arePair roles p q) (held lim s p q) (λ e. k .no-pair p q h i e),
         )
-        (every-all (slotGood lim s p q) (lim .depth) (λ j t.
+        (every-all (slotGood lim (listed s) p q) (lim .depth) (λ j t.
         slot-test lim s p q j (decLt j (held lim s p q)) (λ u. k .used p q j h i u)
         (λ u. (k .unused-label p q j h i u t, k .unused-payload p q j h i u t))))
 
@@ -315,22 +319,6 @@ module _ (lim : Limits) (ts : List ℕ) (roles : ℕ) (s : Session) (k : StateKe
 
 -- ---- the fresh state
 
-length-heads : (ts : List ℕ) (roles n : ℕ) → length (firstHeads ts roles n) ≡ n
-unfolding firstHeads
-length-heads ts roles zero = refl
-length-heads ts roles (suc n) = rw (length-append, length-heads ts roles n) (omega arith)
-
-first-head : (ts : List ℕ) (roles n r : ℕ) → r < n → getD (firstHeads ts roles n) r 0 ≡ cond (ltb r roles) (head ts roles r 0) 0
-unfolding firstHeads
-first-head ts roles zero r h = absurd (omega arith)
-first-head ts roles (suc n) r h = go (ℕ-discrete r n) (λ less. first-head ts roles n r less)
-  where
-    go : Dec (r ≡ n) → (r < n → getD (firstHeads ts roles n) r 0 ≡ cond (ltb r roles) (head ts roles r 0) 0)
-        → getD (firstHeads ts roles (suc n)) r 0 ≡ cond (ltb r roles) (head ts roles r 0) 0
-    go (yes e) f = rw e (getD-at (firstHeads ts roles n) (cond (ltb n roles) (head ts roles n 0) 0) [] 0 n (length-heads ts roles n))
-    go (no m) f =
-        List·getD-append (firstHeads ts roles n) _ 0 r (rw (length-heads ts roles n) (omega arith)) ∙ f (omega arith)
-
 abbrev pub freshState : Limits → List ℕ → ℕ → Session
 freshState lim ts roles = record {
   heads = firstHeads ts roles (lim .roles);
@@ -343,7 +331,7 @@ module _ (lim : Limits) (ts : List ℕ) (roles : ℕ) (few-roles : roles ≤ lim
   pub fresh-head : (r : ℕ) → r < roles → headOf (freshState lim ts roles) r ≡ head ts roles r 0
   fresh-head r h =
       let first : getD (firstHeads ts roles (lim .roles)) r 0 ≡ cond (ltb r roles) (head ts roles r 0) 0 =
-      first-head ts roles (lim .roles) r (omega arith) in
+      first-at ts roles (lim .roles) r (omega arith) in
       first ∙ rw (lt-ltb r roles h)
 
   pub fresh-held : (p q : ℕ) → held lim (freshState lim ts roles) p q ≡ 0
@@ -352,13 +340,13 @@ module _ (lim : Limits) (ts : List ℕ) (roles : ℕ) (few-roles : roles ≤ lim
   pub fresh-kept : ((r : ℕ) → r < roles → (head ts roles r 0 < blockRows ts roles) × (isHead (partRow ts roles r (head ts roles r 0)) ≡ true))
       → StateKept lim ts roles (freshState lim ts roles)
   fresh-kept first = record {
-    heads-sized = length-heads ts roles (lim .roles);
+    heads-sized = length-first ts roles (lim .roles);
     counts-sized = length-replicate (lim .roles * lim .roles) 0;
     labels-sized = length-replicate (lim .roles * lim .roles * lim .depth) 0;
     payloads-sized = length-replicate (lim .roles * lim .roles * lim .depth) 0;
     heads-in = λ r h. rw (fresh-head r h) (first r h .0);
     heads-act = λ r h. rw (fresh-head r h) (first r h .1);
-    heads-none = λ r h i. first-head ts roles (lim .roles) r i ∙ rw (le-ltb r roles h);
+    heads-none = λ r h i. first-at ts roles (lim .roles) r i ∙ rw (le-ltb r roles h);
     few = λ p q h i. rw (fresh-held p q) (omega arith);
     no-pair = λ p q h i e. fresh-held p q;
     used = λ p q j h i u. let none : held lim (freshState lim ts roles) p q ≡ 0 = fresh-held p q in absurd (omega arith);

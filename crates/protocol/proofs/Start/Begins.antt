@@ -8,7 +8,7 @@ use lib.ListN.{length}
 use Rattle.table.specs.Kept.{Inside, i-exchange, i-loop, InsideArms, i-nil, i-arm, HasLabel, has-here, has-there}
 use Rattle.table.specs.Tree.{Global, loop, back, Arms}
 use Rattle.parts.specs.Part.{Part, p-loop, PartArms}
-use Rattle.session.specs.Head.{ArmAt}
+use Rattle.blocks.specs.Head.{ArmAt}
 use Rattle.protocol.specs.Steps.{SomeArm, some-arm}
 use Rattle.protocol.specs.Unrolled.{nth, backTo, close, closeArms, unrolled}
 use Rattle.protocol.proofs.Unrolled.{Each, each-nil, each-cons, close-inside, close-close, inside-close}

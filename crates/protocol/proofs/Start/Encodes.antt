@@ -7,7 +7,7 @@ use mathlib.Core.Path.{_≡_, sym, _∙_}
 use native.Mathlib.Decide.{ℕ-discrete}
 use borrow.Author.Tests.{eq-eqb, ne-eqb}
 use Rattle.parts.specs.Part.{Part, p-end, p-send, p-receive, p-loop, p-back, PartArms, p-nil, p-arm}
-use Rattle.session.specs.Head.{ArmAt, find}
+use Rattle.blocks.specs.Head.{ArmAt, find}
 use Rattle.protocol.proofs.Invariant.View.{View, v-end, v-send, v-receive, v-loop, v-back}
 use Rattle.protocol.proofs.Parts.Arms.{none≢some, At, at-here, at-there}
 

@@ -1,4 +1,4 @@
--- `absent::only` meets its contract: a shift by the role, or nothing for a role out of range. Assumes nothing.
+-- `reach::only` meets its contract: a shift by the role, or nothing for a role out of range. Assumes nothing.
 use mathlib.Core.Path.{sym}
 use native.Mathlib.Omega.{arith}
 use Rattle.reach.proofs.Sets.{set-shifted, set-past}

@@ -1,20 +1,22 @@
--- `absent::stays` meets its contract: the set of the role alone meets the set of those below exactly when it is one of them. Assumes nothing.
-use Rattle.table.specs.Tree.{treeAt}
-use Rattle.reach.proofs.Reached.{reach-stays}
+-- `reach::stays` meets its contract: the set of the role alone meets the kept set exactly when it is one of them. Assumes nothing.
+use mathlib.Core.Bool.{_||_}
+use Rattle.parts.specs.Absent.{takesPart, leaves}
+use Rattle.reach.proofs.Sets.{set-meets}
 use borrow.Author.Needs.{needs}
 use Rattle.reach.proofs.stays.Statement.{statement}
 use Rattle.reach.proofs.stays.Tie as tie
 
-below-requires : tie.Need-below-requires
-below-requires c κs = search needs
+peek-requires : tie.Need-peek-requires
+peek-requires c κs = search needs
 
 only-requires : tie.Need-only-requires
 only-requires c κs = search needs
 
 returns : tie.Need-returns
 returns c =
-    λ l. let a = c .before .before .before .before .before .args in reach-stays (treeAt (a .left) (a .table .now) (a .body)) _ (a .role) _
-    (c .before .before .before .below .ensures) (c .before .before .only .ensures) l
+    λ t B h g l.
+    let a = c .before .before .before .args in
+    rw (c .before .peek .ensures, h .keeps (a .row) B g, c .only .ensures) (set-meets (λ k. takesPart k B || leaves 1 B) (a .role) 8 l)
 
 pub stays-spec : {M : Type 1} → statement M
-stays-spec = tie.close (tie.spec below-requires only-requires returns)
+stays-spec = tie.close (tie.spec peek-requires only-requires returns)

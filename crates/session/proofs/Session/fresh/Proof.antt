@@ -1,7 +1,8 @@
 -- `Session::fresh` meets its promise. Assumes nothing.
 use mathlib.Core.Path.{sym, _∙_}
 use native.Mathlib.Omega.{arith}
-use Rattle.session.proofs.Judging.{bad-tables, good-tables, fresh-refused, fresh-accepted}
+use Rattle.blocks.proofs.Sound.{bad-tables, good-tables}
+use Rattle.session.proofs.Answers.{fresh-refused, fresh-accepted}
 use borrow.Author.Needs.{needs}
 use Rattle.session.proofs.Session.fresh.Statement.{statement}
 use Rattle.session.proofs.Session.fresh.Tie as tie

@@ -1,0 +1,4 @@
+pub mod mirror
+pub mod Block
+pub mod Head
+pub mod Tables

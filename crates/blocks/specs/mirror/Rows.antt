@@ -1,0 +1,37 @@
+-- What the functions that follow a block's rows answer, by the block's first row and its length. Assumes nothing.
+use Prim.Native.Nat.{ℕ, zero, suc, _+_}
+use mathlib.Core.List.{List, []}
+use mathlib.Core.Option.{Option, none, some}
+use Rattle.words.specs.Rows.{word}
+use Rattle.blocks.specs.Block.{PartRow, partRowOf}
+use Rattle.blocks.specs.Head.{onward, armThen, ArmAt}
+use Rattle.blocks.specs.declared.rows.Row.{Row}
+use Rattle.blocks.specs.declared.rows.Found.{Found}
+use Rattle.blocks.specs.declared.rows.Found.the-variants.{At, Nothing}
+
+-- the four words of a row of the tables
+abbrev pub words : List ℕ → ℕ → Row
+words ts at = record { kind = word ts at 0; first = word ts at 1; second = word ts at 2; third = word ts at 3 }
+
+-- what a row's words say
+abbrev pub said : Row → PartRow
+said w = partRowOf (w .kind) (w .first) (w .second) (w .third)
+
+-- row i of the block that begins at row `start`
+abbrev pub rowAt : List ℕ → ℕ → ℕ → PartRow
+rowAt ts start i =
+    let at = start + i in partRowOf (word ts at 0) (word ts at 1) (word ts at 2) (word ts at 3)
+
+unfoldable pub followAt : ℕ → List ℕ → ℕ → ℕ → ℕ
+followAt zero ts start i = i
+followAt (suc n) ts start i = onward (λ j. followAt n ts start j) i (rowAt ts start i)
+
+unfoldable pub chainAt : ℕ → List ℕ → ℕ → ℕ → List ArmAt
+chainAt zero ts start i = []
+chainAt (suc n) ts start zero = []
+chainAt (suc n) ts start (suc i) = armThen (λ j. chainAt n ts start j) (rowAt ts start (suc i))
+
+-- the lookup's answer
+abbrev pub foundOf : Option ℕ → Found
+foundOf none = Nothing
+foundOf (some c) = At c

@@ -1,0 +1,36 @@
+-- A list overwritten by another from the front: one element more. It serves every width. Assumes nothing.
+use Prim.Native.Nat.{ℕ, suc, _+_, _≤_, _<_}
+use mathlib.Core.List.{List, _++_, append-nil}
+use mathlib.Core.Path.{_≡_, sym, _∙_, ap}
+use native.Mathlib.Numerals.{add-one}
+use native.Mathlib.Omega.{arith}
+use borrow.Author.Tests.{eq-eqb, ne-eqb}
+use lib.ListN.{length, getD, set, take, drop}
+use lib.Seq.{drop-cons, take-suc, append-snoc, set-at, length-take-le, take-all, drop-length}
+use Rattle.lent.specs.Slices.{over}
+
+-- `from` written over `to` up to i
+abbrev pub copied : List ℕ → List ℕ → ℕ → List ℕ
+copied from to i = take i from ++ drop i to
+
+pub copied-more : (from to : List ℕ) (i : ℕ) → i < length from → length to ≡ length from
+    → set (copied from to i) i (getD from i 0) ≡ copied from to (i + 1)
+copied-more from to i l e =
+    let k : i < length to = rw (← e) at l in
+    ap (λ (ys : List ℕ). set (take i from ++ ys) i (getD from i 0)) (drop-cons to i 0 k)
+    ∙ (set-at (take i from) (getD to i 0) (drop (suc i) to) (getD from i 0) i (length-take-le i from (omega arith))
+    ∙ (sym (append-snoc (take i from) (getD from i 0) (drop (suc i) to))
+    ∙ rw (add-one, take-suc from i 0 l)))
+
+pub copied-all : (from to : List ℕ) (i : ℕ) → length from ≤ i → i ≤ length from → length to ≡ length from → copied from to i ≡ over (length from) from to
+copied-all from to i l m e =
+    let z : i ≡ length from = omega arith in
+    rw (eq-eqb (length to) (length from) e, z, take-all (length from) from (omega arith), ← e, drop-length to) (append-nil from)
+
+-- a list of another length stays
+pub stays : (from to : List ℕ) → (length to ≡ length from → ⊥) → to ≡ over (length from) from to
+stays from to h = rw (ne-eqb (length to) (length from) h)
+
+-- the length of what is copied, by its number
+pub of-length : (n : ℕ) (words old new : List ℕ) → length words ≡ n → new ≡ over (length words) words old → new ≡ over n words old
+of-length n words old new e h = h ∙ ap (λ (m : ℕ). over m words old) e

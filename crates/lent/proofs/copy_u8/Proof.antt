@@ -1,0 +1,63 @@
+-- `lent::copy_u8` meets its contract. Assumes nothing.
+use Prim.Native.Nat.{_≤_, _-_}
+use mathlib.Core.Path.{_≡_, refl, _∙_}
+use native.Mathlib.Omega.{arith}
+use lib.ListN.{length, length-set}
+use Rattle.lent.proofs.Copied.{copied, copied-more, copied-all, stays}
+use Rattle.lent.proofs.copy_u8.Statement.{statement}
+use Rattle.lent.proofs.copy_u8.Tie as tie
+
+abbrev Inv-loop : tie.InvT-loop
+Inv-loop from to₀ i₀ to i = (i ≤ length from) × (length to ≡ length to₀) × (to ≡ copied from to₀ i)
+
+abbrev μ-loop : tie.MeasureT-loop
+μ-loop from to₀ i₀ to i = length from - i
+
+returns : tie.Need-returns Inv-loop μ-loop
+returns c = stays (c .before .args .from .now) (c .before .args .to .now) (c .if1 .taken)
+
+loop-holds : tie.Need-loop-holds Inv-loop μ-loop
+loop-holds c = (omega arith, refl, refl)
+
+shared-slice-read-to : tie.Need-shared-slice-read-to Inv-loop μ-loop
+shared-slice-read-to c = omega arith
+
+slice-write-to : tie.Need-slice-write-to Inv-loop μ-loop
+slice-write-to c = omega arith
+
+add-i : tie.Need-add-i Inv-loop μ-loop
+add-i c = omega arith
+
+loop-less : tie.Need-loop-less Inv-loop μ-loop
+loop-less c = omega arith
+
+loop-again : tie.Need-loop-again Inv-loop μ-loop
+loop-again c =
+    let was = c .before .before .loop in (
+      omega arith,
+      simp length-set (was .inv .1),
+      rw (was .inv .2) (copied-more _ _ _ (c .before .loop-test .taken) (c .before .before .before .if1 .left)),
+    )
+
+same-length : tie.Need-same-length Inv-loop μ-loop
+same-length c = c .before .loop .inv .1
+
+returns-2 : tie.Need-returns-2 Inv-loop μ-loop
+returns-2 c =
+    c .before .loop .inv .2 ∙ copied-all _ _ _ (c .loop-test .left) (c .before .loop .inv .0) (c .before .before .if1 .left)
+
+pub copy-u8-spec : {M : Type 1} → statement M
+copy-u8-spec =
+    tie.close
+    (tie.spec
+    Inv-loop
+    μ-loop
+    returns
+    loop-holds
+    shared-slice-read-to
+    slice-write-to
+    add-i
+    loop-less
+    loop-again
+    same-length
+    returns-2)

@@ -1,0 +1,25 @@
+// Where the roles of a fresh session stand.
+use crate::Session;
+use blocks::rows;
+ghost use mathlib.Core.Path.{_≡_};
+ghost use Prim.Native.Nat.{_<_};
+ghost use Rattle.blocks.specs.Block.{blockRows};
+ghost use Rattle.session.specs.Calls.{firstHeads};
+
+// Each role at the head of row 0, absent roles at 0.
+pub fn first_heads(tables: &[u16], roles: usize, rows: usize) -> [u16; 8]
+    requires { ⌜ (rows ≡ blockRows (now tables) roles) × (rows < 257) ⌝ }
+    ensures { λ r. ⌜ r ≡ firstHeads (now (tables .entry)) roles 8 ⌝ }
+{
+    let mut heads = [0u16; 8];
+    let mut role = 0;
+    let mut start = 0;
+    while role < Session::ROLES {
+        if role < roles {
+            heads[role] = rows::head(tables, start, rows, 0);
+        }
+        start += rows;
+        role += 1;
+    }
+    heads
+}

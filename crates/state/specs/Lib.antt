@@ -1,0 +1,4 @@
+pub mod mirror
+pub mod Numbers
+pub mod State
+pub mod Awaited
