@@ -19,7 +19,8 @@ use Rattle.session.specs.declared.Answer.{Answer}
 use Rattle.session.specs.declared.Awaiting.{Awaiting}
 use Rattle.lent.specs.Slices.{isState, lent, over, givenOf}
 use Rattle.lent.specs.declared.Given.{Given}
-use Rattle.embed.specs.Lent.{wrongNumber, lentCall, givenCall, awaitedLent, Handed, Told}
+use Rattle.embed.specs.Lent.{wrongNumber, lentCall, awaitedLent, Handed, Told}
+use Rattle.embed.specs.mirror.Given.{givenCall}
 
 -- the lengths of a state
 state-lengths : (h c l p : List ℕ) → isState base h c l p ≡ true

@@ -6,13 +6,12 @@ use mathlib.Core.Path.{_≡_}
 use Rattle.table.specs.Limits.{Limits}
 use Rattle.blocks.specs.Tables.{tablesGood}
 use Rattle.state.specs.Numbers.{TABLES, STATE}
-use Rattle.session.specs.Calls.{answers, freshOf, sendOf, receiveOf}
+use Rattle.session.specs.Calls.{freshOf, sendOf, receiveOf}
 use Rattle.session.specs.Awaited.{awaitedOf, nobodyAwaited}
 use Rattle.session.specs.declared.Session.{Session}
 use Rattle.session.specs.declared.Answer.{Answer}
 use Rattle.session.specs.declared.Awaiting.{Awaiting}
 use Rattle.lent.specs.Slices.{isState, lent}
-use Rattle.lent.specs.declared.Given.{Given}
 
 -- slices of other lengths are no well-formed state: 13, behind 12
 abbrev pub wrongNumber : Limits → List ℕ → ℕ → ℕ
@@ -24,10 +23,6 @@ lentCall lim ts roles call heads counts labels payloads =
     let s = lent heads counts labels payloads in
     cond (isState lim heads counts labels payloads) (call s)
     (record { number = wrongNumber lim ts roles; label = 0; payload = 0; state = s })
-
--- the same over what was taken in, which a refused call hands back
-abbrev pub givenCall : Limits → List ℕ → ℕ → (Session → Answer) → Given → Answer
-givenCall lim ts roles call g = cond (g .whole) (call (g .state)) (answers (wrongNumber lim ts roles) (g .state))
 
 -- a fresh state in lent slices
 abbrev pub freshLent : Limits → List ℕ → ℕ → List ℕ → List ℕ → List ℕ → List ℕ → Answer
