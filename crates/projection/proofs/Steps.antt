@@ -26,7 +26,7 @@ use Rattle.parts.proofs.Sizes.{words-twice, merge-size}
 use Rattle.parts.proofs.Laws.{part-size, part-rising}
 use Rattle.chains.specs.mirror.Orders.{Listed, listed-none, listed-arm}
 use Rattle.merge.specs.declared.Joined.{Joined}
-use Rattle.projection.specs.mirror.Projects.{SMALL, Small, s-exchange, s-loop, SmallArms, s-nil, s-arm, Plain, plain-nil, plain-arm, Stack, Space, Pushed, Outcome, fails, puts, PlannedBy, Planned, Known, ArmRead, Projects, Owns, Behind, behind-none, behind-some, Folds}
+use Rattle.projection.specs.mirror.Projects.{SMALL, Small, s-exchange, s-loop, SmallArms, s-nil, s-arm, Plain, plain-nil, plain-arm, Stack, Space, Pushed, Outcome, fails, puts, PlannedBy, Known, Leads, ArmRead, Projects, Owns, Behind, behind-none, behind-some, Folds}
 use Rattle.projection.specs.declared.Projected.{Projected}
 use Rattle.projection.specs.declared.Arm.{Arm}
 use Rattle.projection.proofs.Join.{Joins}
@@ -96,19 +96,33 @@ rows-positive (flight p q l v G) = omega arith
 rows-positive (loop G) = omega arith
 rows-positive (back k) = omega arith
 
--- a part of one word
-pub leaf-step : {r : ℕ} {t kept order : List ℕ} {i : ℕ} {work work′ : List ℕ} (spare : List ℕ) {at w next left e : ℕ} → Planned 0 r t kept order i w next
-    → Pushed work at w work′ e → Projects r t kept order left i work at spare work′ (record { ok = true; at = e })
-leaf-step spare {at} {e} plan push = record {
+-- what is left behind of a tree whose plan is k
+pub record Chooses (k r : ℕ) (t kept order : List ℕ) (left w next : ℕ) (work : List ℕ) (at : ℕ) (spare work′ : List ℕ) (res : Projected) : Type 0 where
+  pub gives : (G : Global ℕ) (s : List ℕ) → Known r t kept order → PlannedBy k r t order G w next → rowsIn G ≤ left → Good G → Small G → Stack work at s
+      → Space (rowsIn G * 2) at work spare → Outcome codes s work′ res (part r G)
+
+-- a plan for a tree that has the same part will do
+pub chosen : {j k r : ℕ} {t kept order : List ℕ} {i left w next less : ℕ} {work work′ spare : List ℕ} {at : ℕ} {res : Projected} → Leads r t kept order left i j w next less → j ≡ k
+    → Chooses k r t kept order less w next work at spare work′ res → Projects r t kept order left i work at spare work′ res
+chosen {r = r} {t = t} {order = order} {w = w} {next} leads e choose = record {
   gives = λ G s o h f g m k sp.
-      let (P, f, is) = plan .says G o h m in
+      let (B, by, same, fits, within, good, small) = leads .gives G o h f g m in
+      outcome-is same (choose .gives B s o (subst (λ (x : ℕ). PlannedBy x r t order B w next) e by) fits good small k (space-within sp refl refl (omega arith) (omega arith)));
+}
+
+-- a part of one word
+pub leaf-step : {r : ℕ} {t kept order : List ℕ} {work work′ : List ℕ} (spare : List ℕ) {at w next left e : ℕ}
+    → Pushed work at w work′ e → Chooses 0 r t kept order left w next work at spare work′ (record { ok = true; at = e })
+leaf-step spare {at} {e} push = record {
+  gives = λ G s o by f g m k sp.
+      let (P, f, is) = by in
       outcome-is f (puts {x = P} refl (restack (ap (λ (y : List ℕ). s ++ y) (sym is)) (push .gives s k (omega (arith, sp .fits, rows-positive G)))));
 }
 
 -- no tree has no rows
-pub no-links : {r : ℕ} {t kept order : List ℕ} {i : ℕ} {work : List ℕ} (spare : List ℕ) {at left : ℕ} {res : Projected} → left ≡ 0
-    → Projects r t kept order left i work at spare work res
-no-links spare e = record { gives = λ G s o h f g m k sp. absurd (omega (arith, rows-positive G)) }
+pub no-links : {k r : ℕ} {t kept order : List ℕ} {work : List ℕ} (spare : List ℕ) {at w next left : ℕ} {res : Projected} → left ≡ 0
+    → Chooses k r t kept order left w next work at spare work res
+no-links spare e = record { gives = λ G s o by f g m k sp. absurd (omega (arith, rows-positive G)) }
 
 -- a Loop around a body's part
 body-step : {r : ℕ} {t kept order : List ℕ} {less i : ℕ} {B : Global ℕ} {work work′ work″ spare : List ℕ} {at e : ℕ} {a : Projected}
@@ -122,12 +136,12 @@ body-step {B = B} takes push len rec o h s f (g-loop g) (s-loop m) k sp =
     (outcome-under (λ P. some (p-loop P)) p-loop (λ P. refl) (λ P. refl)
     (rec .gives B (s ++ 3 ∷ []) o h (omega arith) g m k′ (space-within sp len refl (omega (arith, k .height, k′ .height, length-append s (3 ∷ []))) (omega arith))))
 
-pub loop-step : {r : ℕ} {t kept order : List ℕ} {i left less : ℕ} {work work′ work″ spare : List ℕ} {at w next e : ℕ} {a : Projected} → left ≡ suc less
-    → Planned 1 r t kept order i w next → Pushed work at w work′ e → length work′ ≡ length work → Projects r t kept order less next work′ e spare work″ a
-    → Projects r t kept order left i work at spare work″ a
-loop-step {r} {less = less} {work = work} {work′} {work″} {spare} {at} {e = e} {a} el plan push len rec = record {
-  gives = λ G s o h f g m.
-      let (B, is, grows, takes, word-is) = plan .says G o h m in
+pub loop-step : {r : ℕ} {t kept order : List ℕ} {left less : ℕ} {work work′ work″ spare : List ℕ} {at w next e : ℕ} {a : Projected} → left ≡ suc less
+    → Pushed work at w work′ e → length work′ ≡ length work → Projects r t kept order less next work′ e spare work″ a
+    → Chooses 1 r t kept order left w next work at spare work″ a
+loop-step {r} {less = less} {work = work} {work′} {work″} {spare} {at} {e = e} {a} el push len rec = record {
+  gives = λ G s o by f g m.
+      let (B, is, grows, takes, word-is) = by in
       subst (λ (X : Global ℕ). rowsIn X ≤ suc less → Good X → Small X → Stack work at s → Space (rowsIn X * 2) at work spare → Outcome codes s work″ a (part r X)) (sym is)
       (body-step takes (subst (λ (x : ℕ). Pushed work at x work′ e) word-is push) len rec o grows s) (rw el at f) g m;
 }
@@ -170,12 +184,12 @@ arms-step {r} {p} {q} {cs = cs} act {w = w} ex is push len rec o h s f (g-exchan
     (rec .gives (ordered cs) (s ++ w ∷ []) o h (omega arith) (ordered-plain g m) k′
     (space-within sp len refl (omega (arith, k .height, k′ .height, length-append s (w ∷ []))) (omega arith)))))
 
-pub action-step : {r : ℕ} {t kept order : List ℕ} {i left less : ℕ} {work work′ work″ spare : List ℕ} {at w next e : ℕ} {a : Projected} → left ≡ suc less
-    → Planned 2 r t kept order i w next → Pushed work at w work′ e → length work′ ≡ length work → Owns r t kept order less next work′ e spare work″ a
-    → Projects r t kept order left i work at spare work″ a
-action-step {r} {less = less} {work = work} {work″ = work″} {spare} {at} {a = a} el plan push len rec = record {
-  gives = λ G s o h f g m.
-      let (p, q, cs, act, is, arms, ex, words) = plan .says G o h m in
+pub action-step : {r : ℕ} {t kept order : List ℕ} {left less : ℕ} {work work′ work″ spare : List ℕ} {at w next e : ℕ} {a : Projected} → left ≡ suc less
+    → Pushed work at w work′ e → length work′ ≡ length work → Owns r t kept order less next work′ e spare work″ a
+    → Chooses 2 r t kept order left w next work at spare work″ a
+action-step {r} {less = less} {work = work} {work″ = work″} {spare} {at} {a = a} el push len rec = record {
+  gives = λ G s o by f g m.
+      let (p, q, cs, act, is, arms, ex, words) = by in
       subst (λ (X : Global ℕ). rowsIn X ≤ suc less → Good X → Small X → Stack work at s → Space (rowsIn X * 2) at work spare → Outcome codes s work″ a (part r X)) (sym is)
       (arms-step act ex words push len rec o arms s) (rw el at f) g m;
 }
@@ -273,13 +287,13 @@ first-step {r} {l = l} {G = G} {cs} {b = b} ex len len′ one rest o h j s f (g-
     (λ P e k′. let z = holds-some (part-size r G) e in
     rest .gives cs s P o j (omega arith) gs ms (holds-some (part-rising r g) e) (k .height) k′ (space-within sp len len′ (omega arith) (omega arith))))
 
-pub others-step : {k r : ℕ} {t kept order : List ℕ} {i left less : ℕ} {work work′ work″ spare spare′ : List ℕ} {at w next : ℕ} (c : Arm) {a b : Projected} → left ≡ suc less → 2 < k
-    → Planned k r t kept order i w next → ArmRead t next c → length work′ ≡ length work → length spare′ ≡ length spare
+pub others-step : {k r : ℕ} {t kept order : List ℕ} {left less : ℕ} {work work′ work″ spare spare′ : List ℕ} {at w next : ℕ} (c : Arm) {a b : Projected} → left ≡ suc less → 2 < k
+    → ArmRead t next c → length work′ ≡ length work → length spare′ ≡ length spare
     → Projects r t kept order less (c .cont) work at spare work′ a → Folds r t kept order less (c .next) work′ at (a .at) spare′ work″ b
-    → Projects r t kept order left i work at spare work″ (also (a .ok) b)
-others-step {k} {r} {t} {kept} {order} {less = less} {work = work} {work″ = work″} {spare} {at = at} {w} {next} c {a} {b} el l plan read len len′ one rest = record {
-  gives = λ G s o h f g m.
-      let (p, q, cs, is, chain, ex) = others r t order G w next k l (plan .says G o h m) in
+    → Chooses k r t kept order left w next work at spare work″ (also (a .ok) b)
+others-step {k} {r} {t} {kept} {order} {less = less} {work = work} {work″ = work″} {spare} {at = at} {w} {next} c {a} {b} el l read len len′ one rest = record {
+  gives = λ G s o by f g m.
+      let (p, q, cs, is, chain, ex) = others r t order G w next k l by in
       let (x, H, ds, e, grows, behind) = first-arm chain in
       subst (λ (X : Global ℕ). rowsIn X ≤ suc less → Good X → Small X → Stack work at s → Space (rowsIn X * 2) at work spare → Outcome codes s work″ (also (a .ok) b) (part r X))
       (ap (λ (z : Arms ℕ). exchange p q z) (sym e) ∙ sym is)
@@ -359,9 +373,6 @@ fold-step {r} {t} {kept} {order} {i} {left} {less} {work₀} {work₃ = work₃}
         (sym e′) (fold-arm project join fold len₁ len₂ spare₁ spare₂ o (rw (read .cont-is) grows) (rw (read .next-is) behind) s P) (rw el at f) g m u x k sp
 
 -- ---- the case of a plan
-
-pub planned : {j k r : ℕ} {t kept order : List ℕ} {i w next : ℕ} → j ≡ k → Planned j r t kept order i w next → Planned k r t kept order i w next
-planned {r = r} {t = t} {kept} {order} {i} {w = w} {next = next} e h = subst (λ (x : ℕ). Planned x r t kept order i w next) e h
 
 pub more-than-two : (k : ℕ) → (k ≡ 0 → ⊥) → (k ≡ 1 → ⊥) → (k ≡ 2 → ⊥) → 2 < k
 more-than-two k p q r = omega arith

@@ -13,7 +13,7 @@ ghost use Rattle.table.specs.Tree.{Global, loop, Arms, exchange};
 ghost use Rattle.parts.specs.mirror.Grows.{Grows, Chain, ordered};
 ghost use Rattle.reach.specs.mirror.Keeps.{Keeps};
 ghost use Rattle.chains.specs.mirror.Orders.{Listed};
-ghost use Rattle.projection.specs.mirror.Projects.{SMALL, FAR, Small, Pushed, PlannedBy, Planned, ArmRead, Projects, Owns, Folds, Prepared, Parted};
+ghost use Rattle.projection.specs.mirror.Projects.{SMALL, FAR, Small, Pushed, PlannedBy, Planned, passedOf, Leads, ArmRead, Projects, Owns, Folds, Prepared, Parted};
 
 // Whether there is a part, and the height of the stack with it.
 pub struct Projected {
@@ -27,6 +27,14 @@ pub struct Plan {
     pub case: u8,
     pub word: u16,
     pub next: usize,
+}
+
+// A plan, and how many links are left to follow for it.
+pub struct Way {
+    pub case: u8,
+    pub word: u16,
+    pub next: usize,
+    pub left: usize,
 }
 
 // An arm: its word, its continuation and the arm after it in the chain, 0 for none.
@@ -167,6 +175,48 @@ fn arm_at(table: &[u16], row: usize) -> Arm
     }
 }
 
+// The continuation of the only arm of an exchange of others; 0 for any other plan.
+fn passed(table: &[u16], case: u8, next: usize) -> usize
+    ensures { λ r. ⌜ r ≡ passedOf (now (table .entry)) case next ⌝ }
+{
+    if case != 3 {
+        return 0;
+    }
+    if words::word(table, next, 3) != 0 {
+        return 0;
+    }
+    words::wide(words::word(table, next, 2))
+}
+
+// The plan for a role at the first row, from this one on, that asks something of it: an exchange of others with one arm asks nothing, and its
+// part is that of the arm. Such rows are passed in a loop, so that a long talk of others does not stand on the call stack.
+fn ahead(table: &[u16], kept: &[u16], order: &[u16], row: usize, role: usize, left: usize) -> Way
+    ensures { λ r. ⌜ Leads role (now (table .entry)) (now (kept .entry)) (now (order .entry)) left row (r .case) (r .word) (r .next) (r .left) ⌝ }
+{
+    let mut here = row;
+    let mut more = left;
+    while 0 < more {
+        let step = plan_at(table, kept, order, here, role);
+        let on = passed(table, step.case, step.next);
+        if on == 0 {
+            return Way {
+                case: step.case,
+                word: step.word,
+                next: step.next,
+                left: more,
+            };
+        }
+        here = on;
+        more -= 1;
+    }
+    Way {
+        case: 0,
+        word: END,
+        next: 0,
+        left: 0,
+    }
+}
+
 // Puts the part of a role in the tree of a row on the stack; at most `left` links are followed.
 fn project(
     table: &[u16],
@@ -181,27 +231,27 @@ fn project(
 ) -> Projected
     ensures { λ r. ⌜ Projects role (now (table .entry)) (now (kept .entry)) (now (order .entry)) left row (now (work .entry)) at (now (spare .entry)) (now (work .exit)) r ⌝ }
 {
-    if left == 0 {
+    let way = ahead(table, kept, order, row, role, left);
+    if way.left == 0 {
         return Projected { ok: false, at: at };
     }
-    let less = left - 1;
-    let step = plan_at(table, kept, order, row, role);
-    let case = step.case;
+    let less = way.left - 1;
+    let case = way.case;
     match case {
         0 => Projected {
             ok: true,
-            at: push(work, at, step.word),
+            at: push(work, at, way.word),
         },
         1 => {
-            let body = push(work, at, step.word);
-            project(table, kept, order, step.next, role, work, body, spare, less)
+            let body = push(work, at, way.word);
+            project(table, kept, order, way.next, role, work, body, spare, less)
         }
         2 => {
-            let arms = push(work, at, step.word);
-            own(table, kept, order, step.next, role, work, arms, spare, less)
+            let arms = push(work, at, way.word);
+            own(table, kept, order, way.next, role, work, arms, spare, less)
         }
         _ => {
-            let arm = arm_at(table, step.next);
+            let arm = arm_at(table, way.next);
             let first = project(table, kept, order, arm.cont, role, work, at, spare, less);
             let all = fold(
                 table,

@@ -1,11 +1,11 @@
 -- `projection::project`, `own` and `fold` meet their contracts: each way that a call returns is a step of proofs/Steps.antt, and the measure is the
 -- number of links left to follow. Assumes nothing.
-use mathlib.Core.Path.{_∙_}
+use mathlib.Core.Path.{refl, _∙_}
 use native.Mathlib.Omega.{arith}
 use borrow.Author.Needs.{needs}
 use Rattle.projection.proofs.Join.{joins-is}
-use Rattle.projection.proofs.Steps.{planned, more-than-two, some-left, no-links, leaf-step, loop-step, action-step, others-step, own-end, own-step, fold-end, fold-step}
-use Prim.Native.Nat.{ℕ, _<_}
+use Rattle.projection.proofs.Steps.{chosen, more-than-two, some-left, no-links, leaf-step, loop-step, action-step, others-step, own-end, own-step, fold-end, fold-step}
+use Prim.Native.Nat.{ℕ, _-_, _<_}
 use borrow.Fn.Kinds.{In}
 use borrow.Fn.PlainCycle.{Measures, is, falls, and}
 use Rattle.projection.proofs.fold.Reads as fold
@@ -19,7 +19,7 @@ use Rattle.projection.proofs.project.Kinds as project-kinds
 use Rattle.projection.proofs.+fold+own+project.Lts-project as project-lts
 use Rattle.merge.proofs.join.Reads as join-reads
 use Rattle.projection.proofs.arm_at.Reads as arm-at-reads
-use Rattle.projection.proofs.plan_at.Reads as plan-at-reads
+use Rattle.projection.proofs.ahead.Reads as ahead-reads
 use Rattle.projection.proofs.push.Reads as push-reads
 use Rattle.words.proofs.peek.Reads as peek-reads
 use Rattle.words.proofs.wide.Reads as wide-reads
@@ -174,8 +174,8 @@ own-returns-2 t c =
 
 abbrev project-calls : ℕ → project-lts.Claims
 project-calls t = (
-  plan-at-reads.Asked,
-  plan-at-reads.Learnt,
+  ahead-reads.Asked,
+  ahead-reads.Learnt,
   push-reads.Asked,
   push-reads.Learnt,
   project-below t,
@@ -188,14 +188,18 @@ project-calls t = (
   fold.Post,
 )
 
+project-ahead-requires : (t : ℕ) → project-lts.Need-ahead-requires (project-calls t) (project-at t) project.Post
+project-ahead-requires t c κs = search needs
+
 project-returns : (t : ℕ) → project-lts.Need-returns (project-calls t) (project-at t) project.Post
-project-returns t c = no-links _ (c .if1 .taken)
+project-returns t c = chosen (c .before .before .ahead .ensures) refl (no-links _ (c .if1 .taken))
 
 project-sub-less : (t : ℕ) → project-lts.Need-sub-less (project-calls t) (project-at t) project.Post
-project-sub-less t c = omega (arith, c .if1 .left)
+project-sub-less t c = omega (arith, c .before .if1 .left)
 
-project-plan-at-requires : (t : ℕ) → project-lts.Need-plan-at-requires (project-calls t) (project-at t) project.Post
-project-plan-at-requires t c κs = search needs
+-- fewer links are left behind the rows that were passed
+fewer : (t : ℕ) (c : project-lts.After-struct-known2 (project-calls t) (project-at t) project.Post) → c .before .before .before .ahead .result .left - 1 < t
+fewer t c = omega (arith, c .before .if1 .left, c .before .before .before .ahead .ensures .within, c .before .before .before .before .before .before .before .before .before .pre .0)
 
 project-push-requires : (t : ℕ) → project-lts.Need-push-requires (project-calls t) (project-at t) project.Post
 project-push-requires t c κs = search needs
@@ -204,29 +208,30 @@ project-push-requires-2 : (t : ℕ) → project-lts.Need-push-requires-2 (projec
 project-push-requires-2 t c κs = search needs
 
 project-project-requires : (t : ℕ) → project-lts.Need-project-requires (project-calls t) (project-at t) project.Post
-project-project-requires t c κs = (omega (arith, c .before .before .before .before .before .before .before .before .if1 .left, c .before .before .before .before .before .before .before .before .before .before .before .before .before .before .pre .0), tt)
+project-project-requires t c κs = (fewer t (c .before .before .before .before .before .before .before), tt)
 
 project-push-requires-3 : (t : ℕ) → project-lts.Need-push-requires-3 (project-calls t) (project-at t) project.Post
 project-push-requires-3 t c κs = search needs
 
 project-own-requires : (t : ℕ) → project-lts.Need-own-requires (project-calls t) (project-at t) project.Post
-project-own-requires t c κs = (omega (arith, c .before .before .before .before .before .before .before .before .if1 .left, c .before .before .before .before .before .before .before .before .before .before .before .before .before .before .pre .0), tt)
+project-own-requires t c κs = (fewer t (c .before .before .before .before .before .before .before), tt)
 
 project-arm-at-requires : (t : ℕ) → project-lts.Need-arm-at-requires (project-calls t) (project-at t) project.Post
 project-arm-at-requires t c κs = search needs
 
 project-project-requires-2 : (t : ℕ) → project-lts.Need-project-requires-2 (project-calls t) (project-at t) project.Post
-project-project-requires-2 t c κs = (omega (arith, c .before .before .before .before .before .if1 .left, c .before .before .before .before .before .before .before .before .before .before .before .pre .0), tt)
+project-project-requires-2 t c κs = (fewer t (c .before .before .before .before), tt)
 
 project-fold-requires : (t : ℕ) → project-lts.Need-fold-requires (project-calls t) (project-at t) project.Post
-project-fold-requires t c κs = (omega (arith, c .before .before .before .before .before .before .before .before .before .before .before .before .if1 .left, c .before .before .before .before .before .before .before .before .before .before .before .before .before .before .before .before .before .before .pre .0), tt)
+project-fold-requires t c κs = (fewer t (c .before .before .before .before .before .before .before .before .before .before .before), tt)
 
 project-same-length : (t : ℕ) → project-lts.Need-same-length (project-calls t) (project-at t) project.Post
 project-same-length t c = search needs
 
 project-returns-2 : (t : ℕ) → project-lts.Need-returns-2 (project-calls t) (project-at t) project.Post
 project-returns-2 t c =
-    leaf-step _ (planned (c .before .before .before .before .match .keys1) (c .before .before .before .before .before .plan-at .ensures)) (c .before .before .push .ensures)
+    let branch = c .before .before .before .before in
+    chosen (branch .before .before .before .before .ahead .ensures) (branch .match .keys1) (leaf-step _ (c .before .before .push .ensures))
 
 project-same-length-2 : (t : ℕ) → project-lts.Need-same-length-2 (project-calls t) (project-at t) project.Post
 project-same-length-2 t c = search needs
@@ -239,9 +244,8 @@ project-returns-3 t c =
     let body = c .before .before .before .before in
     let word = c .before .before .before .before .before .before .before .before .before in
     let branch = c .before .before .before .before .before .before .before .before .before .before .before in
-    let plan = branch .before in
-    loop-step (omega (arith, plan .before .if1 .left)) (planned (branch .match .keys2) (plan .plan-at .ensures)) (word .push2 .ensures) (word .push2 .kept .0)
-    (body .project .ensures)
+    chosen (branch .before .before .before .before .ahead .ensures) (branch .match .keys2)
+    (loop-step (omega (arith, branch .before .before .if1 .left)) (word .push2 .ensures) (word .push2 .kept .0) (body .project .ensures))
 
 project-same-length-4 : (t : ℕ) → project-lts.Need-same-length-4 (project-calls t) (project-at t) project.Post
 project-same-length-4 t c = search needs
@@ -254,9 +258,8 @@ project-returns-4 t c =
     let arms = c .before .before .before .before in
     let word = c .before .before .before .before .before .before .before .before .before in
     let branch = c .before .before .before .before .before .before .before .before .before .before .before in
-    let plan = branch .before in
-    action-step (omega (arith, plan .before .if1 .left)) (planned (branch .match .keys3) (plan .plan-at .ensures)) (word .push3 .ensures) (word .push3 .kept .0)
-    (arms .own .ensures)
+    chosen (branch .before .before .before .before .ahead .ensures) (branch .match .keys3)
+    (action-step (omega (arith, branch .before .before .if1 .left)) (word .push3 .ensures) (word .push3 .kept .0) (arms .own .ensures))
 
 project-same-length-6 : (t : ℕ) → project-lts.Need-same-length-6 (project-calls t) (project-at t) project.Post
 project-same-length-6 t c = search needs
@@ -270,9 +273,9 @@ project-returns-5 t c =
     let first = c .before .before .before .before .before .before .before .before .before .before .before .before .before in
     let arm = c .before .before .before .before .before .before .before .before .before .before .before .before .before .before .before .before in
     let branch = c .before .before .before .before .before .before .before .before .before .before .before .before .before .before .before .before .before in
-    let plan = branch .before in
-    others-step _ (omega (arith, plan .before .if1 .left)) (more-than-two _ (branch .match .rest .0 .0 .1) (branch .match .rest .0 .1) (branch .match .rest .1))
-    (plan .plan-at .ensures) (arm .arm-at .ensures) (first .project2 .kept .1 .1 .1 .1 .1 .0) (first .project2 .kept .1 .1 .1 .1 .1 .1 .1 .0) (first .project2 .ensures) (all .fold .ensures)
+    chosen (branch .before .before .before .before .ahead .ensures) refl
+    (others-step _ (omega (arith, branch .before .before .if1 .left)) (more-than-two _ (branch .match .rest .0 .0 .1) (branch .match .rest .0 .1) (branch .match .rest .1))
+    (arm .arm-at .ensures) (first .project2 .kept .1 .1 .1 .1 .1 .0) (first .project2 .kept .1 .1 .1 .1 .1 .1 .1 .0) (first .project2 .ensures) (all .fold .ensures))
 
 pub +fold+own+project-spec : {M : Type 1} → statement M
 +fold+own+project-spec = close μ-fold μ-own μ-project (λ t. fold-lts.spec (fold-calls t)
@@ -306,9 +309,9 @@ pub +fold+own+project-spec : {M : Type 1} → statement M
     (λ t. project-lts.spec (project-calls t)
     (project-at t)
     project.Post
+    (project-ahead-requires t)
     (project-returns t)
     (project-sub-less t)
-    (project-plan-at-requires t)
     (project-push-requires t)
     (project-push-requires-2 t)
     (project-project-requires t)

@@ -1,10 +1,11 @@
 -- What is promised of the projection's functions: each puts the words of a part, or of arms, on a stack, or says that there is no part.
 -- r: the role. work, work′: the stack before and after. at, e: its height. Assumes nothing.
 use Prim.Native.Nat.{ℕ, zero, suc, _+_, _*_, _<_, _≤_}
-use mathlib.Core.Bool.{true, false, not, _||_}
+use mathlib.Core.Bool.{true, false, not, cond, _||_}
 use mathlib.Core.List.{List, [], _∷_, _++_}
 use mathlib.Core.Option.{Option, none, some, bind}
 use mathlib.Core.Path.{_≡_}
+use lib.Dec.{eqb}
 use lib.ListN.{length}
 use Rattle.words.specs.Below.{lowest}
 use Rattle.words.specs.Rows.{word, rowsOf}
@@ -98,6 +99,16 @@ pub record Known (r : ℕ) (t kept order : List ℕ) : Type 0 where
 
 pub record Planned (k r : ℕ) (t kept order : List ℕ) (i w next : ℕ) : Type 0 where
   pub says : (G : Global ℕ) → Known r t kept order → Grows t i G → Small G → PlannedBy k r t order G w next
+
+-- where the plan k with its arm at row i leads on: to the continuation of the only arm of an exchange of others, or nowhere
+abbrev pub passedOf : List ℕ → ℕ → ℕ → ℕ
+passedOf t k i = cond (eqb k 3) (cond (eqb (word t i 3) 0) (word t i 2) 0) 0
+
+-- the plan k for a tree below row i that has the same part, and the links that are left for it
+pub record Leads (r : ℕ) (t kept order : List ℕ) (left i k w next left′ : ℕ) : Type 0 where
+  pub within : left′ ≤ left
+  pub gives : (G : Global ℕ) → Known r t kept order → Grows t i G → rowsIn G ≤ left → Good G → Small G
+      → (B : Global ℕ) × PlannedBy k r t order B w next × (part r G ≡ part r B) × (rowsIn B ≤ left′) × (rowsIn B ≤ rowsIn G) × Good B × Small B
 
 -- an arm as the code read it
 pub record ArmRead (t : List ℕ) (i : ℕ) (a : Arm) : Type 0 where
