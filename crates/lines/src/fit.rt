@@ -1,7 +1,9 @@
 // Numbers as words or bytes, if all fit.
 ghost use mathlib.Core.Path.{_≡_};
 ghost use Prim.Native.Nat.{_≤_, min};
+ghost use lib.ListN.{length};
 ghost use Rattle.io.specs.Counts.{Counts};
+ghost use Rattle.lines.specs.Over.{over, behind, allBelow, fits, narrowed};
 
 pub fn least(a: usize, b: usize) -> usize
     ensures { λ r. ⌜ (r ≤ a) × (r ≤ b) × (r ≡ min a b) ⌝ }
@@ -11,19 +13,19 @@ pub fn least(a: usize, b: usize) -> usize
 
 // `n`, or the length where that is less. The contract is what `&words[..n]` asks.
 pub fn cut_words(words: &[u16], n: usize) -> usize
-    ensures { λ r. ⌜ Counts r (now (words .entry)) × (r ≤ n) ⌝ }
+    ensures { λ r. ⌜ Counts r (now (words .entry)) × (r ≤ n) × (r ≡ min n (length (now (words .entry)))) ⌝ }
 {
     least(n, words.len())
 }
 
 pub fn cut_numbers(numbers: &[u32], n: usize) -> usize
-    ensures { λ r. ⌜ Counts r (now (numbers .entry)) × (r ≤ n) ⌝ }
+    ensures { λ r. ⌜ Counts r (now (numbers .entry)) × (r ≤ n) × (r ≡ min n (length (now (numbers .entry)))) ⌝ }
 {
     least(n, numbers.len())
 }
 
 pub fn cut_bytes(bytes: &[u8], n: usize) -> usize
-    ensures { λ r. ⌜ Counts r (now (bytes .entry)) × (r ≤ n) ⌝ }
+    ensures { λ r. ⌜ Counts r (now (bytes .entry)) × (r ≤ n) × (r ≡ min n (length (now (bytes .entry)))) ⌝ }
 {
     least(n, bytes.len())
 }
@@ -35,32 +37,54 @@ pub fn size(n: u32) -> usize
     n as usize
 }
 
-// The numbers as words at the start of `out`. False where one is wider than a word, or there are more than `out` holds.
-pub fn words(numbers: &[u32], out: &mut [u16]) -> bool {
+// Every number is below the bound.
+fn all_below(numbers: &[u32], bound: u32) -> bool
+    ensures { λ r. ⌜ r ≡ allBelow bound (now (numbers .entry)) ⌝ }
+{
+    let mut i = 0;
+    while i < numbers.len() {
+        if bound <= numbers[i] {
+            return false;
+        }
+        i += 1;
+    }
+    true
+}
+
+// The numbers as words at the start of `out`. False where one is wider than a word, or there are more than `out` holds: then
+// nothing is written.
+pub fn words(numbers: &[u32], out: &mut [u16]) -> bool
+    ensures { λ r. ⌜ (r ≡ fits 65536 (now (numbers .entry)) (now (out .entry)))
+        × (now (out .exit) ≡ narrowed 65536 (now (numbers .entry)) (now (out .entry))) ⌝ }
+{
     if out.len() < numbers.len() {
+        return false;
+    }
+    if !all_below(numbers, 65536) {
         return false;
     }
     let mut i = 0;
     while i < numbers.len() {
-        if numbers[i] > 65535 {
-            return false;
-        }
         out[i] = numbers[i] as u16;
         i += 1;
     }
     true
 }
 
-// The numbers as bytes at the start of `out`. False where one is wider than a byte, or there are more than `out` holds.
-pub fn bytes(numbers: &[u32], out: &mut [u8]) -> bool {
+// The numbers as bytes at the start of `out`. False where one is wider than a byte, or there are more than `out` holds: then
+// nothing is written.
+pub fn bytes(numbers: &[u32], out: &mut [u8]) -> bool
+    ensures { λ r. ⌜ (r ≡ fits 256 (now (numbers .entry)) (now (out .entry)))
+        × (now (out .exit) ≡ narrowed 256 (now (numbers .entry)) (now (out .entry))) ⌝ }
+{
     if out.len() < numbers.len() {
+        return false;
+    }
+    if !all_below(numbers, 256) {
         return false;
     }
     let mut i = 0;
     while i < numbers.len() {
-        if numbers[i] > 255 {
-            return false;
-        }
         out[i] = numbers[i] as u8;
         i += 1;
     }
@@ -68,7 +92,10 @@ pub fn bytes(numbers: &[u32], out: &mut [u8]) -> bool {
 }
 
 // The words as numbers from place `at` of `out` on, as many as it holds. Answers the place after the last.
-pub fn wide(words: &[u16], out: &mut [u32], at: usize) -> usize {
+pub fn wide(words: &[u16], out: &mut [u32], at: usize) -> usize
+    ensures { λ r. ⌜ (r ≡ behind at (now (words .entry)) (now (out .entry)))
+        × (now (out .exit) ≡ over at (now (words .entry)) (now (out .entry))) ⌝ }
+{
     if out.len() < at {
         return at;
     }
@@ -82,7 +109,9 @@ pub fn wide(words: &[u16], out: &mut [u32], at: usize) -> usize {
 }
 
 // The numbers themselves at the start of `out`, as many as it holds.
-pub fn copy(numbers: &[u32], out: &mut [u32]) {
+pub fn copy(numbers: &[u32], out: &mut [u32])
+    ensures { λ _. ⌜ now (out .exit) ≡ over 0 (now (numbers .entry)) (now (out .entry)) ⌝ }
+{
     let count = least(numbers.len(), out.len());
     let mut i = 0;
     while i < count {

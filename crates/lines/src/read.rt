@@ -1,4 +1,11 @@
 // The numbers of a line: after its letter, for each number one blank and one or more digits.
+ghost use mathlib.Core.Path.{_≡_};
+ghost use mathlib.Core.Bool.{cond};
+ghost use lib.Dec.{leb};
+ghost use lib.ListN.{length};
+ghost use Rattle.lines.specs.Line.{numbersOf, countOf};
+ghost use Rattle.lines.specs.Over.{over, behind};
+ghost use Rattle.lines.specs.mirror.Places.{digitOf, stepOf, endedOf, wholeOf};
 
 // How many numbers a line has.
 pub enum Count {
@@ -15,7 +22,9 @@ enum Place {
 }
 
 // One digit more. Leading zeros are read, and a number of more than 32 bits is wrong.
-fn digit(n: u32, byte: u8) -> Place {
+fn digit(n: u32, byte: u8) -> Place
+    ensures { λ r. ⌜ r ≡ digitOf n byte ⌝ }
+{
     if byte < b'0' {
         return Place::Wrong;
     }
@@ -29,7 +38,9 @@ fn digit(n: u32, byte: u8) -> Place {
     Place::Number(longer as u32)
 }
 
-fn step(place: Place, byte: u8) -> Place {
+fn step(place: Place, byte: u8) -> Place
+    ensures { λ r. ⌜ r ≡ stepOf place byte ⌝ }
+{
     match place {
         Place::Letter => if byte == b' ' {
             Place::Blank
@@ -46,28 +57,32 @@ fn step(place: Place, byte: u8) -> Place {
     }
 }
 
-// A number ends at a blank.
-fn ends(place: Place, byte: u8) -> bool {
-    match place {
-        Place::Letter => false,
-        Place::Blank => false,
-        Place::Number(n) => byte == b' ',
-        Place::Wrong => false,
+// A number ends at a blank and is stored at place `at`. Answers the place after it.
+fn store(out: &mut [u32], at: usize, place: Place, byte: u8) -> usize
+    ensures { λ r. ⌜ (r ≡ behind at (endedOf place byte) (now (out .entry)))
+        × (now (out .exit) ≡ over at (endedOf place byte) (now (out .entry))) ⌝ }
+{
+    if byte != b' ' {
+        return at;
     }
-}
-
-// The number that the reader is in.
-fn held(place: Place) -> u32 {
     match place {
-        Place::Letter => 0,
-        Place::Blank => 0,
-        Place::Number(n) => n,
-        Place::Wrong => 0,
+        Place::Letter => at,
+        Place::Blank => at,
+        Place::Number(n) => {
+            if out.len() <= at {
+                return at;
+            }
+            out[at] = n;
+            at + 1
+        }
+        Place::Wrong => at,
     }
 }
 
 // A line may end here.
-fn whole(place: Place) -> bool {
+fn whole(place: Place) -> bool
+    ensures { λ r. ⌜ r ≡ wholeOf place ⌝ }
+{
     match place {
         Place::Letter => true,
         Place::Blank => false,
@@ -76,8 +91,14 @@ fn whole(place: Place) -> bool {
     }
 }
 
-// The numbers after the letter of the line, at the start of `out`. A line that is longer than `out` counts as malformed.
-pub fn numbers(line: &[u8], out: &mut [u32]) -> Count {
+// The numbers after the letter of the line, at the start of `out`; of a malformed line those before its fault. A line that is
+// longer than `out` counts as malformed, and none of its numbers is stored.
+pub fn numbers(line: &[u8], out: &mut [u32]) -> Count
+    ensures { λ r. ⌜ (r ≡ countOf (now (line .entry)) (length (now (out .entry))))
+        × (now (out .exit) ≡ cond (leb (length (now (line .entry))) (length (now (out .entry))))
+        (over 0 (numbersOf (now (line .entry))) (now (out .entry)))
+        (now (out .entry))) ⌝ }
+{
     if line.len() == 0 {
         return Count::Malformed;
     }
@@ -85,22 +106,18 @@ pub fn numbers(line: &[u8], out: &mut [u32]) -> Count {
         return Count::Malformed;
     }
     let mut place = Place::Letter;
-    let mut count = 0;
+    let mut at = 0;
     let mut i = 1;
     while i < line.len() {
-        if ends(place, line[i]) {
-            out[count] = held(place);
-            count += 1;
-        }
+        at = store(out, at, place, line[i]);
         place = step(place, line[i]);
         i += 1;
     }
-    if !whole(place) {
-        return Count::Malformed;
+    // the line's end ends its last number, as a blank would
+    at = store(out, at, place, b' ');
+    if whole(place) {
+        Count::Of(at)
+    } else {
+        Count::Malformed
     }
-    if ends(place, b' ') {
-        out[count] = held(place);
-        count += 1;
-    }
-    Count::Of(count)
 }

@@ -1,9 +1,16 @@
-// Numbers in decimal, a blank after each but the last, a newline after that.
-ghost use Prim.Native.Nat.{_≤_};
+// Numbers in decimal, a blank after each but the last, a newline after that. What `out` has no room for is not written.
+ghost use mathlib.Core.Path.{_≡_};
+ghost use mathlib.Core.Bool.{cond};
+ghost use mathlib.Core.List.{[], _∷_};
+ghost use Prim.Native.Nat.{_≤_, min};
+ghost use lib.Dec.{ltb};
 ghost use lib.ListN.{length};
+ghost use Rattle.lines.specs.Over.{over, behind};
+ghost use Rattle.lines.specs.Text.{decimal, textOf};
 
+// The byte at place `at`. Each of these answers the place behind what it wrote.
 fn put(out: &mut [u8], at: usize, byte: u8) -> usize
-    ensures { λ r. ⌜ (at ≤ length (now (out .entry)) → r ≤ length (now (out .exit))) ⌝ }
+    ensures { λ r. ⌜ (r ≡ behind at (byte ∷ []) (now (out .entry))) × (now (out .exit) ≡ over at (byte ∷ []) (now (out .entry))) ⌝ }
 {
     if at < out.len() {
         out[at] = byte;
@@ -14,7 +21,8 @@ fn put(out: &mut [u8], at: usize, byte: u8) -> usize
 }
 
 fn put_all(out: &mut [u8], at: usize, bytes: &[u8]) -> usize
-    ensures { λ r. ⌜ (at ≤ length (now (out .entry)) → r ≤ length (now (out .exit))) ⌝ }
+    ensures { λ r. ⌜ (r ≡ behind at (now (bytes .entry)) (now (out .entry)))
+        × (now (out .exit) ≡ over at (now (bytes .entry)) (now (out .entry))) ⌝ }
 {
     let mut end = at;
     let mut i = 0;
@@ -26,23 +34,32 @@ fn put_all(out: &mut [u8], at: usize, bytes: &[u8]) -> usize
 }
 
 fn put_number(out: &mut [u8], at: usize, n: u32) -> usize
-    ensures { λ r. ⌜ (at ≤ length (now (out .entry)) → r ≤ length (now (out .exit))) ⌝ }
+    ensures { λ r. ⌜ (r ≡ behind at (decimal n) (now (out .entry))) × (now (out .exit) ≡ over at (decimal n) (now (out .entry))) ⌝ }
 {
     let mut digits = [0u8; 20];
     let count = io::decimal(n as u64, &mut digits);
     put_all(out, at, &digits[..count])
 }
 
+// What stands behind a number: a blank if another one comes.
+fn mark(next: usize, count: usize) -> u8
+    ensures { λ r. ⌜ r ≡ cond (ltb next count) 32 10 ⌝ }
+{
+    if next < count { b' ' } else { b'\n' }
+}
+
 // Writes the numbers to the start of `out`, and answers how many bytes that took.
 pub fn text(numbers: &[u32], out: &mut [u8]) -> usize
-    ensures { λ r. ⌜ r ≤ length (now (out .exit)) ⌝ }
+    ensures { λ r. ⌜ (r ≤ length (now (out .exit)))
+        × (r ≡ min (length (textOf (now (numbers .entry)))) (length (now (out .entry))))
+        × (now (out .exit) ≡ over 0 (textOf (now (numbers .entry))) (now (out .entry))) ⌝ }
 {
     let mut at = 0;
     let mut i = 0;
     while i < numbers.len() {
         at = put_number(out, at, numbers[i]);
         i += 1;
-        at = put(out, at, if i < numbers.len() { b' ' } else { b'\n' });
+        at = put(out, at, mark(i, numbers.len()));
     }
     at
 }

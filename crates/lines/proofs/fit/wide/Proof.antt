@@ -1,20 +1,26 @@
--- `lines::fit::wide` is safe and ends: what is written lies within `out` from `at` on. Assumes nothing.
-use Prim.Native.Nat.{_≤_, _<_, _+_, _-_}
+-- `lines::fit::wide` meets its contract: the words that are left, stored from the place reached on, are all of them stored from `at` on. Assumes nothing.
+use Prim.Native.Nat.{_≤_, _+_, _-_}
+use mathlib.Core.Path.{_≡_, refl, _∙_}
+use native.Mathlib.Nat.{add-assoc, add-zero}
 use native.Mathlib.Omega.{arith}
-use lib.ListN.{length, length-set}
-use mathlib.Core.Path.{_≡_}
+use lib.ListN.{length, drop, length-set}
+use lib.Seq.{sets}
 use borrow.Author.Needs.{needs}
+use Rattle.lines.specs.Over.{behind}
+use Rattle.lines.proofs.Stores.{stored, finished, past-end}
 use Rattle.lines.proofs.fit.wide.Statement.{statement}
 use Rattle.lines.proofs.fit.wide.Tie as tie
 
 abbrev Inv-loop : tie.InvT-loop
-Inv-loop words out₀ at count i₀ out i = (i ≤ count) × (count ≤ length words) × (at + count ≤ length out₀) × (length out ≡ length out₀)
+Inv-loop words out₀ at count i₀ out i =
+    (i ≤ count) × (length out ≡ length out₀) × (sets out (at + i) (drop i words) ≡ sets out₀ at words)
 
 abbrev μ-loop : tie.MeasureT-loop
 μ-loop words out₀ at count i₀ out i = count - i
 
 returns : tie.Need-returns Inv-loop μ-loop
-returns c = search needs
+unfolding behind
+returns c = (omega arith, past-end _ _ _ (omega arith))
 
 sub-least : tie.Need-sub-least Inv-loop μ-loop
 sub-least c = search needs
@@ -23,7 +29,7 @@ least-requires : tie.Need-least-requires Inv-loop μ-loop
 least-requires c κs = search needs
 
 loop-holds : tie.Need-loop-holds Inv-loop μ-loop
-loop-holds c = search needs
+loop-holds c = (omega arith, refl, rw (add-zero (c .before .before .before .before .args .at)))
 
 mul-out : tie.Need-mul-out Inv-loop μ-loop
 mul-out c = search needs
@@ -50,16 +56,24 @@ loop-less : tie.Need-loop-less Inv-loop μ-loop
 loop-less c = search needs
 
 loop-again : tie.Need-loop-again Inv-loop μ-loop
-loop-again c = simp length-set (omega arith)
+loop-again c =
+    let was = c .before .before .loop in
+    let start = c .before .before .before .before .before .before .before .args in
+    let more = stored (start .words .now) (was .out) (start .at + was .i) (was .i) (omega arith) in
+    (omega arith, simp length-set (was .inv .1), rw (← (add-assoc (start .at) (was .i) 1)) (more ∙ was .inv .2))
 
 add-result : tie.Need-add-result Inv-loop μ-loop
 add-result c = search needs
 
 same-length : tie.Need-same-length Inv-loop μ-loop
-same-length c = omega arith
+same-length c = c .before .loop .inv .1
 
 returns-2 : tie.Need-returns-2 Inv-loop μ-loop
-returns-2 c = search needs
+unfolding behind
+returns-2 c =
+    let was = c .before .loop in
+    let start = c .before .before .before .before .before .before .args in
+    (omega arith, finished (start .words .now) (was .out) _ (start .at + was .i) (was .i) (start .at) (was .inv .2) (λ l. omega arith))
 
 pub wide-spec : {M : Type 1} → statement M
 wide-spec =

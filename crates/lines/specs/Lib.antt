@@ -1,0 +1,4 @@
+pub mod Line
+pub mod Over
+pub mod Text
+pub mod mirror
