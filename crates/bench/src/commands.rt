@@ -1,33 +1,83 @@
 // The commands of a line, each by its letter.
-ghost use Prim.Native.Nat.{_≤_};
+use crate::calls;
+use crate::parts;
+use crate::run;
+use crate::run::LONGEST;
+use crate::run::Line;
+use crate::run::Numbers;
+use crate::run::Opened;
+use crate::run::ROOM;
+use crate::run::Run;
+use crate::run::TOLD;
+use crate::run::Told;
+use crate::run::Words;
+use libc::STDOUT_FILENO;
 use lines::Count;
 use session::Session;
+use table::Table;
 
-// What a line leaves for the next, beside the words of the tables: how many roles, how many words, the state.
-pub struct Kept {
-    pub roles: usize,
-    pub length: usize,
-    pub state: Session,
+// The most words of a table, and of a role's part.
+const PART: usize = Table::ROWS * 4;
+
+// The most words that an opening writes.
+const BLOCKS: usize = Table::ROLES * PART;
+
+// Number and place, and those words.
+const ANSWER: usize = 2 + BLOCKS;
+
+// A number told has at most ten digits, a word at most five, and each has a blank or a newline behind it.
+const TEXT: usize = TOLD * 11 + BLOCKS * 6;
+
+// The letter of a line and how many numbers it has. No command has the letter 0, which stands for a line that is malformed.
+struct Given {
+    letter: u8,
+    count: usize,
 }
 
-// How many numbers the answer has, 0 for a line that is malformed, and what is kept.
-pub struct Reply {
-    pub count: usize,
-    pub kept: Kept,
-}
-
-fn malformed(kept: Kept) -> Reply {
-    Reply {
-        count: 0,
-        kept: kept,
+// The first `length` bytes of `line` are taken apart.
+fn taken(letter: u8, line: &[u8], length: usize, numbers: &mut [u32]) -> Given {
+    let end = lines::cut_bytes(line, length);
+    match lines::numbers(&line[..end], numbers) {
+        Count::Malformed => Given {
+            letter: 0,
+            count: 0,
+        },
+        Count::Of(count) => Given {
+            letter: letter,
+            count: count,
+        },
     }
+}
+
+// The first `length` bytes go out.
+fn write(text: &[u8], length: usize) {
+    let end = lines::cut_bytes(text, length);
+    io::write_all(STDOUT_FILENO, &text[..end]);
+}
+
+// The numbers go out.
+fn write_numbers(numbers: &[u32]) {
+    let mut text = [0u8; TEXT];
+    let length = lines::text(numbers, &mut text);
+    write(&text, length);
+}
+
+// The first `count` numbers told, and then the words; `?` for no number.
+fn show(told: Told, count: usize, words: &[u16]) {
+    if count == 0 {
+        return write(b"?\n", 2);
+    }
+    let mut answer = [0u32; ANSWER];
+    lines::copy(&told, &mut answer);
+    let end = lines::wide(words, &mut answer, count);
+    write_numbers(parts::part(&answer, 0, end));
 }
 
 // How many words an opening wrote.
 fn written(number: u8, roles: usize, length: usize) -> usize {
     if number == 0 {
-        if roles <= 8 {
-            if length <= 1024 {
+        if roles <= Table::ROLES {
+            if length <= PART {
                 return roles * length;
             }
         }
@@ -38,248 +88,81 @@ fn written(number: u8, roles: usize, length: usize) -> usize {
 // `o ROLES ROOM WORD...`
 // No opening is refused for a room of 8,192 words: 8 roles of 1,024 words are the most that pass rules 1 and 2, which come before the room's rule 3.
 // So a longer room is lent at this length.
-fn open(
-    kept: Kept,
-    numbers: &[u32],
-    words: &mut [u16],
-    tables: &mut [u16],
-    answer: &mut [u32; 8194],
-) -> Reply {
-    if numbers.len() < 2 {
-        return malformed(kept);
-    }
-    if !lines::words(&numbers[2..], words) {
-        return malformed(kept);
-    }
-    let roles = lines::size(numbers[0]);
-    let length = lines::cut_words(words, numbers.len() - 2);
-    let asked = lines::least(lines::size(numbers[1]), 8192);
-    let room = lines::cut_words(tables, asked);
-    let verdict = opening::open(&words[..length], roles, &mut tables[..room]);
-    let number = verdict.number;
-    let place = verdict.place;
-    let filled = lines::cut_words(tables, written(number, roles, length));
-    answer[0] = number as u32;
-    answer[1] = lines::least(place, 65536) as u32;
-    let count = lines::wide(&tables[..filled], answer, 2);
-    let state = kept.state;
-    let after = Kept {
+fn open(words: &Words, length: usize, numbers: &Numbers, tables: &mut [u16]) -> Opened {
+    let roles = parts::size_at(numbers, 0);
+    let room = lines::cut_words(tables, lines::least(parts::size_at(numbers, 1), BLOCKS));
+    let verdict = opening::open(parts::first(words, length), roles, &mut tables[..room]);
+    let filled = written(verdict.number, roles, length);
+    Opened {
+        count: 2,
+        number: verdict.number,
+        place: verdict.place,
+        shown: filled,
         roles: roles,
-        length: filled,
-        state: state,
-    };
-    Reply {
-        count: count,
-        kept: after,
+        words: filled,
     }
 }
 
 // `t ROLES WORD...`
-fn set_tables(
-    kept: Kept,
-    numbers: &[u32],
-    words: &mut [u16],
-    tables: &mut [u16],
-    answer: &mut [u32; 8194],
-) -> Reply {
-    if numbers.len() < 1 {
-        return malformed(kept);
-    }
-    if !lines::words(&numbers[1..], words) {
-        return malformed(kept);
-    }
-    lines::words(&numbers[1..], tables);
-    let roles = lines::size(numbers[0]);
-    let length = lines::cut_words(tables, numbers.len() - 1);
-    let fresh = Session::fresh(&tables[..length], roles);
-    answer[0] = fresh.number as u32;
-    let state = kept.state;
-    let after = Kept {
-        roles: roles,
-        length: length,
-        state: state,
-    };
-    Reply {
+fn set_tables(words: &Words, length: usize, numbers: &Numbers, tables: &mut Words) -> Opened {
+    let roles = parts::size_at(numbers, 0);
+    let fresh = Session::fresh(parts::first(words, length), roles);
+    *tables = *words;
+    Opened {
         count: 1,
-        kept: after,
-    }
-}
-
-// `f`
-fn fresh(kept: Kept, tables: &[u16], answer: &mut [u32; 8194]) -> Reply {
-    let roles = kept.roles;
-    let length = lines::cut_words(tables, kept.length);
-    let fresh = Session::fresh(&tables[..length], roles);
-    answer[0] = fresh.number as u32;
-    let state = fresh.state;
-    let heads = state.heads;
-    lines::wide(&heads, answer, 1);
-    let after = Kept {
+        number: fresh.number,
+        place: 0,
+        shown: 0,
         roles: roles,
-        length: length,
-        state: state,
-    };
-    Reply {
-        count: 9,
-        kept: after,
+        words: length,
     }
 }
 
-// The awaited answer of a state, without its number, from place `at` of the answer.
-fn put_awaited(kept: Kept, tables: &[u16], answer: &mut [u32; 8194], at: usize) -> u8
-    requires { ⌜ at ≤ 3 ⌝ }
-{
-    let length = lines::cut_words(tables, kept.length);
-    let state = kept.state;
-    let awaiting = state.awaited(&tables[..length], kept.roles);
-    answer[at] = awaiting.set as u32;
-    answer[at + 1] = awaiting.count;
-    answer[at + 2] = awaiting.lowest;
-    awaiting.number
-}
-
-// `h` and 584 numbers
-fn set_state(kept: Kept, numbers: &[u32], tables: &[u16], answer: &mut [u32; 8194]) -> Reply {
-    if numbers.len() != 584 {
-        return malformed(kept);
-    }
-    let mut heads = [0u16; 8];
-    if !lines::words(&numbers[0..8], &mut heads) {
-        return malformed(kept);
-    }
-    let mut counts = [0u8; 64];
-    if !lines::bytes(&numbers[8..72], &mut counts) {
-        return malformed(kept);
-    }
-    let mut labels = [0u8; 256];
-    if !lines::bytes(&numbers[72..328], &mut labels) {
-        return malformed(kept);
-    }
-    let mut payloads = [0u32; 256];
-    lines::copy(&numbers[328..584], &mut payloads);
-    let state = Session {
-        heads: heads,
-        counts: counts,
-        labels: labels,
-        payloads: payloads,
-    };
-    let after = Kept {
-        roles: kept.roles,
-        length: kept.length,
-        state: state,
-    };
-    answer[0] = put_awaited(after, tables, answer, 1) as u32;
-    Reply {
-        count: 4,
-        kept: after,
-    }
-}
-
-// `s SENDER RECEIVER LABEL PAYLOAD`
-fn send(kept: Kept, numbers: &[u32], tables: &[u16], answer: &mut [u32; 8194]) -> Reply {
-    if numbers.len() != 4 {
-        return malformed(kept);
-    }
-    let roles = kept.roles;
-    let length = lines::cut_words(tables, kept.length);
-    let state = kept.state;
-    let sent = state.send(
-        &tables[..length],
-        roles,
-        lines::size(numbers[0]),
-        lines::size(numbers[1]),
-        lines::size(numbers[2]),
-        numbers[3],
-    );
-    answer[0] = sent.number as u32;
-    let left = sent.state;
-    let after = Kept {
-        roles: roles,
-        length: length,
-        state: left,
-    };
-    put_awaited(after, tables, answer, 1);
-    Reply {
-        count: 4,
-        kept: after,
-    }
-}
-
-// `r SENDER RECEIVER`
-fn receive(kept: Kept, numbers: &[u32], tables: &[u16], answer: &mut [u32; 8194]) -> Reply {
-    if numbers.len() != 2 {
-        return malformed(kept);
-    }
-    let roles = kept.roles;
-    let length = lines::cut_words(tables, kept.length);
-    let state = kept.state;
-    let received = state.receive(
-        &tables[..length],
-        roles,
-        lines::size(numbers[0]),
-        lines::size(numbers[1]),
-    );
-    answer[0] = received.number as u32;
-    answer[1] = received.label as u32;
-    answer[2] = received.payload;
-    let left = received.state;
-    let after = Kept {
-        roles: roles,
-        length: length,
-        state: left,
-    };
-    put_awaited(after, tables, answer, 3);
-    Reply {
-        count: 6,
-        kept: after,
-    }
-}
-
-fn command(
-    letter: u8,
-    kept: Kept,
-    numbers: &[u32],
-    words: &mut [u16],
-    tables: &mut [u16],
-    answer: &mut [u32; 8194],
-) -> Reply {
+// How many numbers stand before the words of a command that sets tables: more than any line has for another letter.
+fn numbers_before(letter: u8) -> usize {
     match letter {
-        b'o' => open(kept, numbers, words, tables, answer),
-        b't' => set_tables(kept, numbers, words, tables, answer),
-        b'f' => if numbers.len() == 0 {
-            fresh(kept, tables, answer)
-        } else {
-            malformed(kept)
-        },
-        b'h' => set_state(kept, numbers, tables, answer),
-        b's' => send(kept, numbers, tables, answer),
-        b'r' => receive(kept, numbers, tables, answer),
-        _ => malformed(kept),
+        b'o' => 2,
+        b't' => 1,
+        _ => ROOM,
     }
 }
 
-// The answer to the first `length` bytes of `line`, which is one byte longer than a line may be.
-pub fn obey(
-    kept: Kept,
-    line: &[u8],
-    length: usize,
-    numbers: &mut [u32],
-    words: &mut [u16],
-    tables: &mut [u16],
-    answer: &mut [u32; 8194],
-) -> Reply {
-    if length == 0 {
-        return malformed(kept);
+// The numbers from place `from` on as words, and how many: more than there can be where a number is missing or is no word.
+fn words_in(from: usize, count: usize, numbers: &Numbers, words: &mut Words) -> usize {
+    if count < from {
+        return ROOM;
     }
-    if line.len() <= length {
-        return malformed(kept);
+    if !lines::words(parts::part(numbers, from, count), words) {
+        return ROOM;
     }
-    let end = lines::cut_bytes(line, length);
-    match lines::numbers(&line[..end], numbers) {
-        Count::Malformed => malformed(kept),
-        Count::Of(count) => {
-            let most = lines::cut_numbers(numbers, count);
-            command(line[0], kept, &numbers[..most], words, tables, answer)
-        }
+    count - from
+}
+
+// A command that sets tables, or no command at all.
+fn set_up(letter: u8, count: usize, numbers: &Numbers, tables: &mut Words) -> Opened {
+    let mut words = [0u16; LONGEST];
+    let found = words_in(numbers_before(letter), count, numbers, &mut words);
+    if found > LONGEST {
+        return run::malformed();
     }
+    if letter == b'o' {
+        return open(&words, found, numbers, tables);
+    }
+    set_tables(&words, found, numbers, tables)
+}
+
+fn command(letter: u8, count: usize, run: Run, numbers: &Numbers, tables: &mut Words) -> Run {
+    if calls::is_call(letter, count, numbers) {
+        return calls::call(letter, run, numbers, tables);
+    }
+    run::over(run, set_up(letter, count, numbers, tables))
+}
+
+// The answer to the line.
+pub fn obey(run: Run, line: &Line, numbers: &mut Numbers, tables: &mut Words) -> Run {
+    let given = taken(line[0], line, run.length, numbers);
+    let after = command(given.letter, given.count, run, numbers, tables);
+    let told = after.told;
+    show(told, after.count, parts::first(tables, after.shown));
+    after
 }

@@ -1,114 +1,74 @@
 // The line protocol over opening and session: one line in, one line out, to the end of the input.
 //
 // A line of more than 65,536 bytes is answered `?`, as is every line that is malformed.
+mod calls;
 mod commands;
+mod parts;
+mod run;
 
-use commands::Kept;
-use commands::Reply;
 use libc::STDIN_FILENO;
-use libc::STDOUT_FILENO;
-use session::Session;
+use run::LONGEST;
+use run::Line;
+use run::Numbers;
+use run::ROOM;
+use run::Run;
+use run::Words;
 
-// One byte more than the longest line, so that a longer one shows.
-type Line = [u8; 65537];
+// As many bytes as are read at once.
+const CHUNK: usize = 65536;
 
-// No line has more numbers than bytes.
-type Numbers = [u32; 65536];
+type Input = [u8; CHUNK];
 
-type Words = [u16; 65536];
-
-// Number and place, and the most words that an opening writes.
-type Answer = [u32; 8194];
-
-// What is carried from byte to byte: how much of the line there is, and what the lines so far have set.
-struct Run {
-    length: usize,
-    kept: Kept,
+// More bytes of the input; none at its end.
+fn read_more(input: &mut Input) -> usize {
+    let got = libc::read(STDIN_FILENO, input);
+    io::count(got, input)
 }
 
-fn start() -> Run {
-    let state = Session {
-        heads: [0u16; 8],
-        counts: [0u8; 64],
-        labels: [0u8; 256],
-        payloads: [0u32; 256],
-    };
-    let kept = Kept {
-        roles: 0,
-        length: 0,
-        state: state,
-    };
-    Run {
-        length: 0,
-        kept: kept,
+// A last line without its newline is given one.
+fn last(input: &mut Input, length: usize) -> usize {
+    if length == 0 {
+        return 0;
     }
+    input[0] = b'\n';
+    1
 }
 
-fn show(answer: &[u32], count: usize) {
-    if count == 0 {
-        io::write_all(STDOUT_FILENO, b"?\n");
-        return;
+// One byte more of a line that is `length` bytes long, as far as its room goes.
+fn lengthen(line: &mut Line, length: usize, byte: u8) -> usize {
+    if length < ROOM {
+        line[length] = byte;
+        return length + 1;
     }
-    let mut out = [0u8; 98304];
-    let shown = lines::cut_numbers(answer, count);
-    let length = lines::text(&answer[..shown], &mut out);
-    let end = lines::cut_bytes(&out, length);
-    io::write_all(STDOUT_FILENO, &out[..end]);
+    length
 }
 
 // One byte of input: a newline ends the line, another byte lengthens it.
-fn take(
-    run: Run,
-    byte: u8,
-    line: &mut Line,
-    numbers: &mut Numbers,
-    words: &mut Words,
-    tables: &mut Words,
-    answer: &mut Answer,
-) -> Run {
-    let length = run.length;
-    let kept = run.kept;
+fn take(run: Run, byte: u8, line: &mut Line, numbers: &mut Numbers, tables: &mut Words) -> Run {
+    let mut run = run;
     if byte == b'\n' {
-        let reply = commands::obey(kept, line, length, numbers, words, tables, answer);
-        show(answer, reply.count);
-        let after = reply.kept;
-        return Run {
-            length: 0,
-            kept: after,
-        };
+        run = commands::obey(run, line, numbers, tables);
+        run.length = 0;
+        return run;
     }
-    if length < 65537 {
-        line[length] = byte;
-        return Run {
-            length: length + 1,
-            kept: kept,
-        };
-    }
+    run.length = lengthen(line, run.length, byte);
     run
-}
-
-// Up to 65,536 bytes more of the input; none at its end.
-fn read_more(input: &mut [u8; 65536]) -> usize {
-    let got = libc::read(STDIN_FILENO, input);
-    io::count(got, input)
 }
 
 // The first `count` bytes that were read.
 fn take_all(
     run: Run,
-    input: &[u8; 65536],
+    input: &Input,
     count: usize,
     line: &mut Line,
     numbers: &mut Numbers,
-    words: &mut Words,
     tables: &mut Words,
-    answer: &mut Answer,
 ) -> Run {
-    let end = lines::least(count, 65536);
+    let end = lines::least(count, CHUNK);
     let mut run = run;
     let mut i = 0;
     while i < end {
-        run = take(run, input[i], line, numbers, words, tables, answer);
+        run = take(run, input[i], line, numbers, tables);
         i += 1;
     }
     run
@@ -116,41 +76,19 @@ fn take_all(
 
 fn main() {
     let mut input = io::large_buffer();
-    let mut line = [0u8; 65537];
-    let mut numbers = [0u32; 65536];
-    let mut words = [0u16; 65536];
-    let mut tables = [0u16; 65536];
-    let mut answer = [0u32; 8194];
-    let mut run = start();
+    let mut line = [0u8; ROOM];
+    let mut numbers = [0u32; LONGEST];
+    let mut tables = [0u16; LONGEST];
+    let mut run = run::start();
     // A proved loop has to end, and nothing says that the input does: no run uses these turns up.
     let mut turns = u64::MAX;
     while turns > 0 {
-        let count = read_more(&mut input);
+        let mut count = read_more(&mut input);
         if count == 0 {
             turns = 1;
+            count = last(&mut input, run.length);
         }
-        run = take_all(
-            run,
-            &input,
-            count,
-            &mut line,
-            &mut numbers,
-            &mut words,
-            &mut tables,
-            &mut answer,
-        );
+        run = take_all(run, &input, count, &mut line, &mut numbers, &mut tables);
         turns -= 1;
-    }
-    // A last line without its newline.
-    if run.length > 0 {
-        take(
-            run,
-            b'\n',
-            &mut line,
-            &mut numbers,
-            &mut words,
-            &mut tables,
-            &mut answer,
-        );
     }
 }

@@ -1,17 +1,17 @@
 -- What a call over lent slices hands over, where their lengths are a state's and where they are not. Assumes nothing.
 use Prim.Native.Nat.{ℕ}
-use mathlib.Core.Bool.{Bool, true, false, cond, _&&_, not}
+use mathlib.Core.Bool.{Bool, true, false, _&&_}
 use mathlib.Core.List.{List}
 use mathlib.Core.Path.{_≡_, refl, sym, _∙_, ap}
-use native.Mathlib.Omega.{arith}
 use lib.Dec.{eqb}
 use lib.ListN.{length}
 use borrow.Author.Tests.{eqb-true, eq-eqb}
 use Rattle.table.specs.Limits.{base}
 use Rattle.table.proofs.Tests.{both}
-use Rattle.blocks.specs.Tables.{tablesGood}
+use Rattle.blocks.specs.mirror.Tables.{goodRows}
+use Rattle.blocks.proofs.Sound.{bad-tables, good-tables}
 use Rattle.state.specs.Numbers.{TABLES, STATE}
-use Rattle.session.specs.Calls.{answers, freshOf}
+use Rattle.session.specs.Calls.{answers}
 use Rattle.session.specs.State.{nothing}
 use Rattle.session.specs.Awaited.{awaitedOf}
 use Rattle.session.specs.declared.Session.{Session}
@@ -31,24 +31,13 @@ state-lengths h c l p e =
     let (a, b) = both (eqb (length h) 8) (eqb (length c) 64) hc in
     (eqb-true (length h) 8 a, eqb-true (length c) 64 b, eqb-true (length l) 256 f, eqb-true (length p) 256 d)
 
-picked : (b : Bool) (x y : Answer) → cond (not b) x y .number ≡ cond b (y .number) (x .number)
-picked true x y = refl
-picked false x y = refl
+-- the number by how many rows were found: none where the tables are not good
+module _ (ts : List ℕ) (roles rows : ℕ) (found : rows ≡ goodRows base ts roles) where
+  pub wrong-tables : rows ≡ 0 → TABLES ≡ wrongNumber base ts roles
+  wrong-tables z = rw (bad-tables ts roles (sym z ∙ found))
 
--- a fresh state is refused exactly for its tables
-fresh-number : (ts : List ℕ) (roles : ℕ) → freshOf base ts roles .number ≡ cond (tablesGood base ts roles) 0 TABLES
-unfolding freshOf
-fresh-number ts roles = picked (tablesGood base ts roles) _ _
-
-by-fresh : (b : Bool) (n : ℕ) → n ≡ cond b 0 TABLES → (n ≡ TABLES → TABLES ≡ cond b STATE TABLES) × ((n ≡ TABLES → ⊥) → STATE ≡ cond b STATE TABLES)
-by-fresh true n e = ((λ z. absurd (omega arith)), λ h. refl)
-by-fresh false n e = ((λ z. refl), λ h. absurd (h e))
-
-pub wrong-tables : (ts : List ℕ) (roles : ℕ) (a : Answer) → a ≡ freshOf base ts roles → a .number ≡ TABLES → TABLES ≡ wrongNumber base ts roles
-wrong-tables ts roles a e z = by-fresh (tablesGood base ts roles) (a .number) (ap (λ (x : Answer). x .number) e ∙ fresh-number ts roles) .0 z
-
-pub wrong-state : (ts : List ℕ) (roles : ℕ) (a : Answer) → a ≡ freshOf base ts roles → (a .number ≡ TABLES → ⊥) → STATE ≡ wrongNumber base ts roles
-wrong-state ts roles a e h = by-fresh (tablesGood base ts roles) (a .number) (ap (λ (x : Answer). x .number) e ∙ fresh-number ts roles) .1 h
+  pub wrong-state : (rows ≡ 0 → ⊥) → STATE ≡ wrongNumber base ts roles
+  wrong-state h = rw (good-tables ts roles rows found h .0)
 
 -- words that were taken in and put back unchanged
 kept-by : (n : ℕ) (zeros words : List ℕ) → length zeros ≡ n → (b : Bool) → eqb (length words) n ≡ b → over n (over (length words) words zeros) words ≡ words

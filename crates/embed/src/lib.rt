@@ -7,17 +7,18 @@ ghost use Rattle.opening.specs.Opening.{openOf, roomOf};
 ghost use Rattle.session.specs.Calls.{answers, freshOf, sendOf, receiveOf};
 ghost use Rattle.embed.specs.Lent.{wrongNumber, freshLent, sendLent, receiveLent, awaitedLent, Handed, Told};
 ghost use Rattle.embed.specs.mirror.Given.{givenCall};
+use blocks::tables;
 use lent::Given;
 use session::Answer;
+use session::Awaiting;
 use session::Session;
 
 // The number for slices that are no state: 13, or 12 where the tables are not well formed either.
 fn wrong_number(tables: &[u16], roles: usize) -> u8
     ensures { λ r. ⌜ r ≡ wrongNumber base (now (tables .entry)) roles ⌝ }
 {
-    let fresh = Session::fresh(tables, roles);
-    let number = fresh.number;
-    if number == Answer::TABLES {
+    // Tables that are not well formed have no rows here.
+    if tables::rows_of(tables, roles) == 0 {
         return Answer::TABLES;
     }
     Answer::STATE
@@ -185,6 +186,6 @@ pub extern "C" fn gaugetwinkle_awaited(
     }
     *set = 0;
     *count = 0;
-    *lowest = Session::ROLES as u32;
+    *lowest = Awaiting::NOBODY;
     wrong_number(tables, roles)
 }

@@ -6,7 +6,7 @@ ghost use lib.Seq.{sets};
 ghost use Rattle.parts.specs.Part.{Part};
 ghost use Rattle.parts.specs.Layout.{block};
 ghost use Rattle.parts.specs.mirror.Codes.{codes};
-ghost use Rattle.layout.specs.mirror.Lay.{LIMIT, inside, Inside, stepAt, loopRow, nextRow, putArm, putLoop, putBack, putAction, layS, clearS, Ready};
+ghost use Rattle.layout.specs.mirror.Lay.{LIMIT, inside, loopRow, nextRow, putArm, putLoop, putLast, putAction, layS, clearS, Ready};
 
 // Where the codes and the rows of a part end.
 pub struct Laid {
@@ -28,17 +28,6 @@ fn in_range(left: usize, code: usize, from: usize, row: usize, depth: usize) -> 
     ensures { λ r. ⌜ r ≡ inside left code from row depth ⌝ }
 {
     (0 < left) & (code < LIMIT) & (from <= LIMIT) & (row < LIMIT) & (depth < LIMIT)
-}
-
-// What is to be done at a code: its kind, with 5 for Send and Receive; 7 for nothing.
-fn step_at(src: &[u16], code: usize, from: usize, row: usize, depth: usize, left: usize) -> u16
-    ensures { λ r. ⌜ (r ≡ stepAt left (now (src .entry)) code from row depth) × (r < 6 → Inside left code from row depth) ⌝ }
-{
-    if !in_range(left, code, from, row, depth) {
-        return 7;
-    }
-    let kind = words::peek(src, code) % 8;
-    if kind == 6 { 5 } else { kind }
 }
 
 // The row of the Loop that a Back of that depth names, of the Loops around it; 0 where they are too few.
@@ -66,14 +55,13 @@ fn next_row(src: &[u16], code: usize, row: usize) -> u16
     }
 }
 
-// The row of an arm whose continuation ends at `end`.
-fn put_arm(src: &[u16], code: usize, out: &mut [u16], from: usize, row: usize, end: Laid)
+// The row of the arm that this word is, whose continuation ends at `end`.
+fn put_arm(word: u16, src: &[u16], out: &mut [u16], from: usize, row: usize, end: Laid)
     requires { ⌜ (from ≤ LIMIT) × (row < LIMIT) ⌝ }
-    ensures { λ _. ⌜ now (out .exit) ≡ putArm (now (src .entry)) code (now (out .entry)) from row (end .code) (end .row) ⌝ }
+    ensures { λ _. ⌜ now (out .exit) ≡ putArm word (now (src .entry)) (now (out .entry)) from row (end .code) (end .row) ⌝ }
 {
-    let label = words::peek(src, code) / 8;
     let next = next_row(src, end.code, end.row);
-    words::put_row(out, from + row, 2, label, narrow(row + 1), next);
+    words::put_row(out, from + row, 2, word / 8, narrow(row + 1), next);
 }
 
 // The row of a Loop, kept for the Backs inside it.
@@ -87,94 +75,93 @@ fn put_loop(out: &mut [u16], from: usize, row: usize, loops: &mut [u16], depth: 
     }
 }
 
-fn put_back(
-    src: &[u16],
-    code: usize,
-    out: &mut [u16],
-    from: usize,
-    row: usize,
-    loops: &[u16],
-    depth: usize,
-)
+// The row of the End or the Back that this word is.
+fn put_last(word: u16, out: &mut [u16], from: usize, row: usize, loops: &[u16], depth: usize)
     requires { ⌜ (from ≤ LIMIT) × (row < LIMIT) ⌝ }
-    ensures { λ _. ⌜ now (out .exit) ≡ putBack (now (src .entry)) code (now (out .entry)) from row (now (loops .entry)) depth ⌝ }
+    ensures { λ _. ⌜ now (out .exit) ≡ putLast word (now (out .entry)) from row (now (loops .entry)) depth ⌝ }
 {
-    let back = words::wide(words::peek(src, code) / 8);
-    let home = loop_row(loops, depth, back);
-    words::put_row(out, from + row, 4, home, 0, 0);
+    if word % 8 == 4 {
+        let home = loop_row(loops, depth, words::wide(word / 8));
+        words::put_row(out, from + row, 4, home, 0, 0);
+    } else {
+        words::put_row(out, from + row, 0, 0, 0, 0);
+    }
 }
 
-// The row of a Send or a Receive.
-fn put_action(src: &[u16], code: usize, out: &mut [u16], from: usize, row: usize)
+// The row of the Send or the Receive that this word is.
+fn put_action(word: u16, out: &mut [u16], from: usize, row: usize)
     requires { ⌜ (from ≤ LIMIT) × (row < LIMIT) ⌝ }
-    ensures { λ _. ⌜ now (out .exit) ≡ putAction (now (src .entry)) code (now (out .entry)) from row ⌝ }
+    ensures { λ _. ⌜ now (out .exit) ≡ putAction word (now (out .entry)) from row ⌝ }
 {
-    let word = words::peek(src, code);
     words::put_row(out, from + row, word % 8, word / 8, narrow(row + 1), 0);
 }
 
 // The codes from `code` on written as rows from `row` on of the block that starts at row `from`: one part, or the arms to the end of
-// their action. An arm's own row is written last, when the row of the next arm is known.
+// their action. An arm's own row is written last, when the row of the next arm is known, so only an arm's continuation is a call;
+// what stands behind any other code is the next turn.
 fn lay(
     src: &[u16],
-    code: usize,
+    mut code: usize,
     out: &mut [u16],
     from: usize,
-    row: usize,
+    mut row: usize,
     loops: &mut [u16],
-    depth: usize,
-    left: usize,
+    mut depth: usize,
+    mut left: usize,
 ) -> Laid
     ensures { λ r. ⌜ (r ≡ layS left (now (src .entry)) from code (now (out .entry)) row (now (loops .entry)) depth .res)
         × (now (out .exit) ≡ layS left (now (src .entry)) from code (now (out .entry)) row (now (loops .entry)) depth .out)
         × (now (loops .exit) ≡ layS left (now (src .entry)) from code (now (out .entry)) row (now (loops .entry)) depth .loops) ⌝ }
 {
-    let step = step_at(src, code, from, row, depth, left);
-    match step {
-        0 => {
-            words::put_row(out, from + row, 0, 0, 0, 0);
-            Laid {
-                code: code + 1,
-                row: row + 1,
+    loop {
+        if !in_range(left, code, from, row, depth) {
+            return Laid {
+                code: code,
+                row: row,
+            };
+        }
+        left -= 1;
+        let word = words::peek(src, code);
+        // 0 End, 1 behind the last arm, 2 an arm, 3 Loop, 4 Back, 5 Send, 6 Receive, 7 no code.
+        let kind = word % 8;
+        match kind {
+            0 | 4 => {
+                put_last(word, out, from, row, loops, depth);
+                return Laid {
+                    code: code + 1,
+                    row: row + 1,
+                };
+            }
+            1 => {
+                return Laid {
+                    code: code + 1,
+                    row: row,
+                };
+            }
+            2 => {
+                let end = lay(src, code + 1, out, from, row + 1, loops, depth, left);
+                put_arm(word, src, out, from, row, end);
+                code = end.code;
+                row = end.row;
+            }
+            3 => {
+                put_loop(out, from, row, loops, depth);
+                code += 1;
+                row += 1;
+                depth += 1;
+            }
+            7 => {
+                return Laid {
+                    code: code,
+                    row: row,
+                };
+            }
+            _ => {
+                put_action(word, out, from, row);
+                code += 1;
+                row += 1;
             }
         }
-        1 => Laid {
-            code: code + 1,
-            row: row,
-        },
-        2 => {
-            let end = lay(src, code + 1, out, from, row + 1, loops, depth, left - 1);
-            put_arm(src, code, out, from, row, end);
-            lay(src, end.code, out, from, end.row, loops, depth, left - 1)
-        }
-        3 => {
-            put_loop(out, from, row, loops, depth);
-            lay(
-                src,
-                code + 1,
-                out,
-                from,
-                row + 1,
-                loops,
-                depth + 1,
-                left - 1,
-            )
-        }
-        4 => {
-            put_back(src, code, out, from, row, loops, depth);
-            Laid {
-                code: code + 1,
-                row: row + 1,
-            }
-        }
-        5 => {
-            put_action(src, code, out, from, row);
-            lay(src, code + 1, out, from, row + 1, loops, depth, left - 1)
-        }
-        _ => Laid {
-            code: code,
-            row: row,
-        },
     }
 }
 

@@ -19,7 +19,7 @@ use Rattle.session.specs.State.{listed, headOf, held, labelAt, stateGood
 use Rattle.session.specs.Calls.{answers, unless, sendArm, sendAt, sendOf, receiveArm, receiveAt, receiveOf}
 use Rattle.session.specs.declared.Session.{Session}
 use Rattle.session.specs.declared.Answer.{Answer}
-use Rattle.session.specs.mirror.Slots.{received}
+use Rattle.session.specs.mirror.Received.{received}
 use Rattle.blocks.proofs.Mirrored.{arms-at, head-at}
 
 module _ (ts : List ℕ) (roles p q : ℕ) (s : Session) where

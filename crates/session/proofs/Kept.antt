@@ -26,9 +26,10 @@ use Rattle.blocks.proofs.Mirrored.{head-at}
 use Rattle.blocks.proofs.Good.{both, sized-bounds}
 use Rattle.blocks.proofs.Sound.{good-sized, row-holds, row-headed, head-in}
 use Rattle.state.proofs.Sound.{pair-in, queue-good, head-good, state-from}
+use Rattle.slots.proofs.Forward.{four-sets}
 use Rattle.session.proofs.Accepted.{send-accepted, receive-accepted}
 use Rattle.session.proofs.First.{length-first}
-use Rattle.session.proofs.Queues.{four-sets, four-forward}
+use Rattle.session.proofs.Queues.{four-forward}
 use Rattle.session.proofs.Calling.{afterSend, after-send, afterReceive, after-receive}
 
 -- the lengths that the state's type gives its arrays

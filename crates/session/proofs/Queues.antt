@@ -1,24 +1,19 @@
--- Laws of one pair's four slots. Assumes nothing.
+-- Laws of one pair's four slots, as an accepted receive leaves them. Assumes nothing.
 use Prim.Native.Nat.{ℕ, suc, _+_, _*_, _-_, _<_, _≤_}
 use mathlib.Core.List.{List, [], _∷_}
-use mathlib.Core.Path.{_≡_, ap}
+use mathlib.Core.Path.{_≡_, _∙_}
 use lib.ListN.{length, getD, set, take, drop}
 use lib.Seq.{sets, drop-cons}
 use native.Mathlib.Nat.{add-zero}
 use native.Mathlib.Numerals.{sub-one}
 use native.Mathlib.Omega.{arith}
+use borrow.Author.Tests.{lt-ltb}
 use Rattle.table.specs.Limits.{base}
+use Rattle.slots.specs.mirror.Slots.{oldest, cameForward}
 use Rattle.session.specs.State.{forward}
 use Rattle.session.specs.declared.Session.{Session}
 use Rattle.session.specs.declared.Answer.{Answer}
-use Rattle.session.specs.mirror.Slots.{four, received}
-
-pub four-sets : (ws : List ℕ) (i a b c d : ℕ) → set (set (set (set ws i a) (i + 1) b) (i + 2) c) (i + 3) d ≡ sets ws (i + 0) (a ∷ b ∷ c ∷ d ∷ [])
-four-sets ws i a b c d =
-    let e1 : i + 1 ≡ suc i = omega arith in
-    let e2 : i + 2 ≡ suc (suc i) = omega arith in
-    let e3 : i + 3 ≡ suc (suc (suc i)) = omega arith in
-    rw (e1, e2, e3, add-zero i)
+use Rattle.session.specs.mirror.Received.{received}
 
 -- without the first: the rest come forward
 pub four-forward : (ws : List ℕ) (i : ℕ) → i + 4 ≤ length ws
@@ -38,22 +33,28 @@ four-forward ws i h =
       e3,
     )
 
-came-forward : (ws : List ℕ) (i : ℕ) {ls : List ℕ} → i + 4 ≤ length ws → ls ≡ four ws i
-    → sets ws (i + 0) (getD ls 1 0 ∷ getD ls 2 0 ∷ getD ls 3 0 ∷ 0 ∷ []) ≡ sets ws (i + 0) (forward (take 4 (drop (i + 0) ws)))
-came-forward ws i {ls} h e =
-    let same : (getD ls 1 0 ∷ getD ls 2 0 ∷ getD ls 3 0 ∷ 0 ∷ []) ≡ forward (take 4 (drop (i + 0) ws)) = rw (e, four-forward ws i h) in
-    ap (sets ws (i + 0)) same
+came-forward : (ws : List ℕ) (pair : ℕ) → pair < 64 → length ws ≡ 256 → cameForward ws pair ≡ sets ws (pair * 4 + 0) (forward (take 4 (drop (pair * 4 + 0) ws)))
+came-forward ws pair l n = rw (lt-ltb pair 64 l, four-forward ws (pair * 4) (omega arith))
 
--- what an accepted receive leaves: ls and ps were read of the queue's slots, and lab and pay were written
-pub taken-read : (s : Session) (p q h : ℕ) {ls ps lab pay : List ℕ} → p < 8 → q < 8 → length (s .labels) ≡ 256 → length (s .payloads) ≡ 256
-    → ls ≡ four (s .labels) ((p * 8 + q) * 4) → ps ≡ four (s .payloads) ((p * 8 + q) * 4)
-    → lab ≡ sets (s .labels) ((p * 8 + q) * 4 + 0) (getD ls 1 0 ∷ getD ls 2 0 ∷ getD ls 3 0 ∷ 0 ∷ [])
-    → pay ≡ sets (s .payloads) ((p * 8 + q) * 4 + 0) (getD ps 1 0 ∷ getD ps 2 0 ∷ getD ps 3 0 ∷ 0 ∷ [])
+first-held : (ws : List ℕ) (pair : ℕ) → pair < 64 → oldest ws pair ≡ getD ws (pair * 4 + 0) 0
+first-held ws pair l = rw (lt-ltb pair 64 l)
+
+-- what an accepted receive leaves: l and v were handed out of the queue's slots, and labels and payloads are what is left
+pub taken-read : (s : Session) (p q h : ℕ) {l v : ℕ} {labels payloads : List ℕ} → p < 8 → q < 8 → length (s .labels) ≡ 256 → length (s .payloads) ≡ 256
+    → l ≡ oldest (s .labels) (p * 8 + q) → v ≡ oldest (s .payloads) (p * 8 + q)
+    → labels ≡ cameForward (s .labels) (p * 8 + q) → payloads ≡ cameForward (s .payloads) (p * 8 + q)
     → _≡_ {A = Answer} (record {
       number = 0;
-      label = getD ls 0 0;
-      payload = getD ps 0 0;
-      state = record { heads = set (s .heads) q h; counts = set (s .counts) (p * 8 + q) (getD (s .counts) (p * 8 + q) 0 - 1); labels = lab; payloads = pay };
+      label = l;
+      payload = v;
+      state = record { heads = set (s .heads) q h; counts = set (s .counts) (p * 8 + q) (getD (s .counts) (p * 8 + q) 0 - 1); labels = labels; payloads = payloads };
     }) (received base s p q h)
-taken-read s p q h lp lq nl np el ep fl fp =
-    rw (fl, fp, came-forward (s .labels) ((p * 8 + q) * 4) (omega arith) el, came-forward (s .payloads) ((p * 8 + q) * 4) (omega arith) ep, el, ep, sub-one (getD (s .counts) (p * 8 + q) 0))
+taken-read s p q h lp lq nl np el ev fl fp =
+    let low : p * 8 + q < 64 = omega arith in
+    rw (
+      el ∙ first-held (s .labels) (p * 8 + q) low,
+      ev ∙ first-held (s .payloads) (p * 8 + q) low,
+      fl ∙ came-forward (s .labels) (p * 8 + q) low nl,
+      fp ∙ came-forward (s .payloads) (p * 8 + q) low np,
+      sub-one (getD (s .counts) (p * 8 + q) 0),
+    )

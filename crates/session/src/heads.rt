@@ -3,13 +3,12 @@ use crate::Session;
 use blocks::rows;
 ghost use mathlib.Core.Path.{_≡_};
 ghost use Prim.Native.Nat.{_<_};
-ghost use Rattle.blocks.specs.Block.{blockRows};
-ghost use Rattle.session.specs.Calls.{firstHeads};
+ghost use Rattle.session.specs.mirror.Heads.{headsFrom};
 
-// Each role at the head of row 0, absent roles at 0.
+// Each role at the head of row 0 of its block of that many rows, absent roles at 0.
 pub fn first_heads(tables: &[u16], roles: usize, rows: usize) -> [u16; 8]
-    requires { ⌜ (rows ≡ blockRows (now tables) roles) × (rows < 257) ⌝ }
-    ensures { λ r. ⌜ r ≡ firstHeads (now (tables .entry)) roles 8 ⌝ }
+    requires { ⌜ rows < 257 ⌝ }
+    ensures { λ r. ⌜ r ≡ headsFrom (now (tables .entry)) roles rows 8 ⌝ }
 {
     let mut heads = [0u16; 8];
     let mut role = 0;

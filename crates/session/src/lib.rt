@@ -5,7 +5,6 @@ use state::calls;
 use table::Table;
 
 mod heads;
-mod slots;
 
 ghost use mathlib.Core.Path.{_≡_};
 ghost use Prim.Native.Nat.{_<_};
@@ -13,7 +12,7 @@ ghost use Rattle.table.specs.Limits.{base};
 ghost use Rattle.session.specs.State.{held, moved, pushed};
 ghost use Rattle.session.specs.Calls.{freshOf, sendOf, receiveOf};
 ghost use Rattle.session.specs.Awaited.{awaitedOf};
-ghost use Rattle.session.specs.mirror.Slots.{received};
+ghost use Rattle.session.specs.mirror.Received.{received};
 
 // Each role's head row, and for each ordered pair of roles (sender x ROLES + receiver) a queue of DEPTH slots, the oldest message in
 // the first.
@@ -29,7 +28,7 @@ impl Session {
 
     pub const PAIRS: usize = 64;
 
-    pub const DEPTH: usize = state::DEPTH;
+    pub const DEPTH: usize = slots::DEPTH;
 
     pub const SLOTS: usize = 256;
 
@@ -37,30 +36,21 @@ impl Session {
     pub fn fresh(tables: &[u16], roles: usize) -> Answer
         ensures { λ r. ⌜ r ≡ freshOf base (now (tables .entry)) roles ⌝ }
     {
+        // Tables that are not well formed have no rows here, and so every head is 0.
         let rows = tables::rows_of(tables, roles);
-        if rows == 0 {
-            let nothing = Session {
-                heads: [0u16; 8],
-                counts: [0u8; 64],
-                labels: [0u8; 256],
-                payloads: [0u32; 256],
-            };
-            return Answer {
-                number: Answer::TABLES,
-                label: 0,
-                payload: 0,
-                state: nothing,
-            };
-        }
-        let heads = heads::first_heads(tables, roles, rows);
+        let number = if rows == 0 {
+            Answer::TABLES
+        } else {
+            Answer::ACCEPTED
+        };
         let state = Session {
-            heads: heads,
+            heads: heads::first_heads(tables, roles, rows),
             counts: [0u8; 64],
             labels: [0u8; 256],
             payloads: [0u32; 256],
         };
         Answer {
-            number: Answer::ACCEPTED,
+            number: number,
             label: 0,
             payload: 0,
             state: state,
@@ -159,16 +149,14 @@ impl Session {
         ensures { λ r. ⌜ r ≡ received base self sender receiver head ⌝ }
     {
         let pair = sender * Session::ROLES + receiver;
-        let ls = slots::labels_of(&self.labels, pair);
-        let ps = slots::payloads_of(&self.payloads, pair);
-        slots::put_labels(&mut self.labels, pair, [ls[1], ls[2], ls[3], 0]);
-        slots::put_payloads(&mut self.payloads, pair, [ps[1], ps[2], ps[3], 0]);
+        let label = slots::take_label(&mut self.labels, pair);
+        let payload = slots::take_payload(&mut self.payloads, pair);
         self.counts[pair] = self.counts[pair] - 1;
         self.heads[receiver] = head;
         Answer {
             number: Answer::ACCEPTED,
-            label: ls[0],
-            payload: ps[0],
+            label: label,
+            payload: payload,
             state: self,
         }
     }
@@ -185,17 +173,9 @@ impl Session {
             &self.labels,
             &self.payloads,
         );
-        if waiting.number != Answer::ACCEPTED {
-            return Awaiting {
-                number: waiting.number,
-                set: 0,
-                count: 0,
-                lowest: Awaiting::NOBODY,
-                state: self,
-            };
-        }
+        // Of the empty set, with which rules 12 and 13 refuse too, the count is 0 and the lowest is NOBODY.
         Awaiting {
-            number: Answer::ACCEPTED,
+            number: waiting.number,
             set: waiting.set,
             count: u8::count_ones(waiting.set),
             lowest: u8::trailing_zeros(waiting.set),

@@ -1,10 +1,10 @@
 // The tests of the calls, from rule 12 on, over the lent arrays of a state.
-use crate::DEPTH;
 use crate::Turn;
 use crate::formed;
 use crate::turns;
 use blocks::rows;
 use blocks::tables;
+use slots::DEPTH;
 use table::Table;
 ghost use mathlib.Core.Path.{_≡_};
 ghost use mathlib.Core.Bool.{true};

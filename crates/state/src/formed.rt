@@ -1,7 +1,7 @@
 // Rule 13: a state that is well formed. The state's arrays are lent, since the state is large.
-use crate::DEPTH;
 use crate::wide;
 use blocks::rows;
+use slots::DEPTH;
 use table::Table;
 ghost use mathlib.Core.Path.{_≡_};
 ghost use Prim.Native.Nat.{_+_, _*_, _<_, _≤_};

@@ -6,9 +6,6 @@ mod turns;
 ghost use mathlib.Core.Path.{_≡_};
 ghost use Prim.Native.Nat.{_<_};
 
-// The slots of a queue.
-pub const DEPTH: usize = 4;
-
 // A call is refused with a number, or the role that made it moves to that row.
 pub enum Turn {
     Refused(u8),

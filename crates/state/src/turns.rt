@@ -1,10 +1,10 @@
 // The tests of a call past rules 12 to 14: the kind of the role's head decides. Over good tables and a good state.
-use crate::DEPTH;
 use crate::Turn;
 use crate::wide;
 use blocks::rows;
 use blocks::rows::Found;
 use blocks::rows::Row;
+use slots::DEPTH;
 use table::Table;
 ghost use mathlib.Core.Path.{_≡_};
 ghost use Prim.Native.Nat.{_+_, _*_, _<_};
@@ -28,24 +28,21 @@ pub fn send_turn(
 ) -> Turn
     ensures { λ r. ⌜ r ≡ sendTurn base (now (tables .entry)) start rows receiver label count (said part) ⌝ }
 {
-    let kind = part.kind;
-    match kind {
-        Row::SEND => {
-            if words::wide(part.first) != receiver {
-                return Turn::Refused(Turn::TURN);
+    if part.kind != Row::SEND {
+        return Turn::Refused(Turn::TURN);
+    }
+    if words::wide(part.first) != receiver {
+        return Turn::Refused(Turn::TURN);
+    }
+    let found = rows::find_arm(tables, start, rows, part.second, label);
+    match found {
+        Found::Nothing => Turn::Refused(Turn::LABEL),
+        Found::At(then) => {
+            if DEPTH <= wide(count) {
+                return Turn::Refused(Turn::FULL);
             }
-            let found = rows::find_arm(tables, start, rows, part.second, label);
-            match found {
-                Found::Nothing => Turn::Refused(Turn::LABEL),
-                Found::At(then) => {
-                    if DEPTH <= wide(count) {
-                        return Turn::Refused(Turn::FULL);
-                    }
-                    Turn::To(rows::head(tables, start, rows, then))
-                }
-            }
+            Turn::To(rows::head(tables, start, rows, then))
         }
-        _ => Turn::Refused(Turn::TURN),
     }
 }
 
@@ -61,22 +58,19 @@ pub fn receive_turn(
 ) -> Turn
     ensures { λ r. ⌜ r ≡ receiveTurn (now (tables .entry)) start rows sender count label (said part) ⌝ }
 {
-    let kind = part.kind;
-    match kind {
-        Row::RECEIVE => {
-            if words::wide(part.first) != sender {
-                return Turn::Refused(Turn::TURN);
-            }
-            if count == 0 {
-                return Turn::Refused(Turn::EMPTY);
-            }
-            let found = rows::find_arm(tables, start, rows, part.second, wide(label));
-            match found {
-                Found::Nothing => Turn::Refused(Turn::STRAY),
-                Found::At(then) => Turn::To(rows::head(tables, start, rows, then)),
-            }
-        }
-        _ => Turn::Refused(Turn::TURN),
+    if part.kind != Row::RECEIVE {
+        return Turn::Refused(Turn::TURN);
+    }
+    if words::wide(part.first) != sender {
+        return Turn::Refused(Turn::TURN);
+    }
+    if count == 0 {
+        return Turn::Refused(Turn::EMPTY);
+    }
+    let found = rows::find_arm(tables, start, rows, part.second, wide(label));
+    match found {
+        Found::Nothing => Turn::Refused(Turn::STRAY),
+        Found::At(then) => Turn::To(rows::head(tables, start, rows, then)),
     }
 }
 

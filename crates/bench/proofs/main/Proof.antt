@@ -7,12 +7,10 @@ use Rattle.bench.proofs.main.Statement.{statement}
 use Rattle.bench.proofs.main.Tie as tie
 
 abbrev Inv-loop : tie.InvT-loop
-Inv-loop input₀ line₀ numbers₀ words₀ tables₀ answer₀ run₀ turns₀ input line numbers words tables answer run turns =
-    0 ≤ turns
+Inv-loop input₀ line₀ numbers₀ tables₀ run₀ turns₀ input line numbers tables run turns = 0 ≤ turns
 
 abbrev μ-loop : tie.MeasureT-loop
-μ-loop input₀ line₀ numbers₀ words₀ tables₀ answer₀ run₀ turns₀ input line numbers words tables answer run turns =
-    turns
+μ-loop input₀ line₀ numbers₀ tables₀ run₀ turns₀ input line numbers tables run turns = turns
 
 large-buffer-requires : tie.Need-large-buffer-requires Inv-loop μ-loop
 large-buffer-requires c κs = search needs
@@ -26,26 +24,23 @@ loop-holds c = search needs
 read-more-requires : tie.Need-read-more-requires Inv-loop μ-loop
 read-more-requires c κs = search needs
 
+last-requires : tie.Need-last-requires Inv-loop μ-loop
+last-requires c κs = search needs
+
 take-all-requires : tie.Need-take-all-requires Inv-loop μ-loop
 take-all-requires c κs = search needs
 
 sub-turns : tie.Need-sub-turns Inv-loop μ-loop
-sub-turns c = ⊎-elim (λ w. omega arith) (λ w. omega arith) (c .before .before .before .before .before .before .before .before .if1 .came)
+sub-turns c = ⊎-elim (λ w. omega arith) (λ w. omega arith) (c .before .before .before .before .before .before .if1 .came)
 
 loop-less : tie.Need-loop-less Inv-loop μ-loop
-loop-less c = ⊎-elim (λ w. omega arith) (λ w. omega arith) (c .before .before .before .before .before .before .before .before .if1 .came)
+loop-less c = ⊎-elim (λ w. omega arith) (λ w. omega arith) (c .before .before .before .before .before .before .if1 .came)
 
 loop-again : tie.Need-loop-again Inv-loop μ-loop
 loop-again c = search needs
 
-take-requires : tie.Need-take-requires Inv-loop μ-loop
-take-requires c κs = search needs
-
 returns : tie.Need-returns Inv-loop μ-loop
 returns c = search needs
-
-returns-2 : tie.Need-returns-2 Inv-loop μ-loop
-returns-2 c = search needs
 
 pub main-spec : {M : Type 1} → statement M
 main-spec =
@@ -57,10 +52,9 @@ main-spec =
     start-requires
     loop-holds
     read-more-requires
+    last-requires
     take-all-requires
     sub-turns
     loop-less
     loop-again
-    take-requires
-    returns
-    returns-2)
+    returns)

@@ -5,12 +5,10 @@ use Rattle.bench.proofs.take_all.Statement.{statement}
 use Rattle.bench.proofs.take_all.Tie as tie
 
 abbrev Inv-loop : tie.InvT-loop
-Inv-loop input count line₀ numbers₀ words₀ tables₀ answer₀ end run₀ i₀ line numbers words tables answer run i =
-    (i ≤ end) × (end ≤ 65536)
+Inv-loop input count line₀ numbers₀ tables₀ end run₀ i₀ line numbers tables run i = (i ≤ end) × (end ≤ 65536)
 
 abbrev μ-loop : tie.MeasureT-loop
-μ-loop input count line₀ numbers₀ words₀ tables₀ answer₀ end run₀ i₀ line numbers words tables answer run i =
-    end - i
+μ-loop input count line₀ numbers₀ tables₀ end run₀ i₀ line numbers tables run i = end - i
 
 least-requires : tie.Need-least-requires Inv-loop μ-loop
 least-requires c κs = search needs

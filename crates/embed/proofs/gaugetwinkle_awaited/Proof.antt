@@ -18,9 +18,6 @@ returns c =
     _ (c .before .before .taken .ensures) (c .before .if1 .taken) _ (c .awaited .ensures) in
     rw (← e) (record { number-is = refl; set-is = refl; count-is = refl; lowest-is = refl })
 
-cast-lowest : tie.Need-cast-lowest
-cast-lowest c = search needs
-
 wrong-number-requires : tie.Need-wrong-number-requires
 wrong-number-requires c κs = search needs
 
@@ -37,6 +34,5 @@ gaugetwinkle-awaited-spec =
     taken-requires
     awaited-requires
     returns
-    cast-lowest
     wrong-number-requires
     returns-2)

@@ -1,17 +1,17 @@
 -- `embed::wrong_number` meets its contract. Assumes nothing.
-use borrow.Author.Needs.{needs}
 use Rattle.embed.proofs.Handing.{wrong-tables, wrong-state}
+use borrow.Author.Needs.{needs}
 use Rattle.embed.proofs.wrong_number.Statement.{statement}
 use Rattle.embed.proofs.wrong_number.Tie as tie
 
-fresh-requires : tie.Need-fresh-requires
-fresh-requires c κs = search needs
+rows-of-requires : tie.Need-rows-of-requires
+rows-of-requires c κs = search needs
 
 returns : tie.Need-returns
-returns c = wrong-tables _ _ _ (c .before .fresh .ensures) (c .if1 .taken)
+returns c = wrong-tables _ _ _ (c .before .rows-of .ensures) (c .if1 .taken)
 
 returns-2 : tie.Need-returns-2
-returns-2 c = wrong-state _ _ _ (c .before .fresh .ensures) (c .if1 .left)
+returns-2 c = wrong-state _ _ _ (c .before .rows-of .ensures) (c .if1 .left)
 
 pub wrong-number-spec : {M : Type 1} → statement M
-wrong-number-spec = tie.close (tie.spec fresh-requires returns returns-2)
+wrong-number-spec = tie.close (tie.spec rows-of-requires returns returns-2)

@@ -4,9 +4,6 @@ use borrow.Author.Needs.{needs}
 use Rattle.layout.proofs.put_arm.Statement.{statement}
 use Rattle.layout.proofs.put_arm.Tie as tie
 
-peek-requires : tie.Need-peek-requires
-peek-requires c κs = search needs
-
 next-row-requires : tie.Need-next-row-requires
 next-row-requires c κs = search needs
 
@@ -27,16 +24,13 @@ same-length c = search needs
 
 returns : tie.Need-returns
 returns c =
-    let a = c .before .before .before .before .before .before .before .before .before .args in
-    arm-row (a .src .now) (a .code) (a .out .now) (a .from) (a .row) (a .end .code) (a .end .row) _ _ _ _
-    (c .before .before .before .before .before .before .peek .ensures) (c .before .before .before .narrow .ensures)
-    (c .before .before .before .before .before .next-row .ensures) (c .before .before .put-row .ensures)
+    let a = c .before .before .before .before .before .before .before .before .args in
+    arm-row (a .src .now) (a .out .now) (a .from) (a .row) (a .end .code) (a .end .row) (a .word) _ _ _ (c .before .before .before .narrow .ensures) (c .before .before .before .before .before .next-row .ensures) (c .before .before .put-row .ensures)
 
 pub put-arm-spec : {M : Type 1} → statement M
 put-arm-spec =
     tie.close
     (tie.spec
-    peek-requires
     next-row-requires
     add-put-row
     add-narrow

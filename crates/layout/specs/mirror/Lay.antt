@@ -44,19 +44,23 @@ loopRow loops depth k = cond (ltb k depth) (getD loops (depth - 1 - k) 0) 0
 abbrev pub nextRow : List ℕ → ℕ → ℕ → ℕ
 nextRow s i row = cond (ltb LIMIT row) 0 (cond (eqb (kindOf s i) 2) row 0)
 
--- ---- the rows
+-- ---- the rows of the code w
 
-abbrev pub putArm : List ℕ → ℕ → List ℕ → ℕ → ℕ → ℕ → ℕ → List ℕ
-putArm s i out from row iEnd rowEnd = putRow out (from + row) 2 (argOf s i) (row + 1) (nextRow s iEnd rowEnd)
+abbrev pub putArm : ℕ → List ℕ → List ℕ → ℕ → ℕ → ℕ → ℕ → List ℕ
+putArm w s out from row iEnd rowEnd = putRow out (from + row) 2 (w / 8) (row + 1) (nextRow s iEnd rowEnd)
 
 abbrev pub putLoop : List ℕ → ℕ → ℕ → List ℕ
 putLoop out from row = putRow out (from + row) 3 (row + 1) 0 0
 
-abbrev pub putBack : List ℕ → ℕ → List ℕ → ℕ → ℕ → List ℕ → ℕ → List ℕ
-putBack s i out from row loops depth = putRow out (from + row) 4 (loopRow loops depth (argOf s i)) 0 0
+abbrev pub putBack : ℕ → List ℕ → ℕ → ℕ → List ℕ → ℕ → List ℕ
+putBack w out from row loops depth = putRow out (from + row) 4 (loopRow loops depth (w / 8)) 0 0
 
-abbrev pub putAction : List ℕ → ℕ → List ℕ → ℕ → ℕ → List ℕ
-putAction s i out from row = putRow out (from + row) (kindOf s i) (argOf s i) (row + 1) 0
+-- an End or a Back
+abbrev pub putLast : ℕ → List ℕ → ℕ → ℕ → List ℕ → ℕ → List ℕ
+putLast w out from row loops depth = cond (eqb (w % 8) 4) (putBack w out from row loops depth) (putRow out (from + row) 0 0 0 0)
+
+abbrev pub putAction : ℕ → List ℕ → ℕ → ℕ → List ℕ
+putAction w out from row = putRow out (from + row) (w % 8) (w / 8) (row + 1) 0
 
 -- ---- the whole
 
@@ -76,10 +80,10 @@ layBody rec k s from i out row loops depth =
     bySeven k
     (stop (i + 1) (putRow out (from + row) 0 0 0 0) (row + 1) loops)
     (stop (i + 1) out row loops)
-    (rec (end .res .code) (putArm s i (end .out) from row (end .res .code) (end .res .row)) (end .res .row) (end .loops) depth)
+    (rec (end .res .code) (putArm (getD s i 0) s (end .out) from row (end .res .code) (end .res .row)) (end .res .row) (end .loops) depth)
     (rec (i + 1) (putLoop out from row) (row + 1) (set loops depth row) (depth + 1))
-    (stop (i + 1) (putBack s i out from row loops depth) (row + 1) loops)
-    (rec (i + 1) (putAction s i out from row) (row + 1) loops depth)
+    (stop (i + 1) (putBack (getD s i 0) out from row loops depth) (row + 1) loops)
+    (rec (i + 1) (putAction (getD s i 0) out from row) (row + 1) loops depth)
     (stop i out row loops)
 
 unfoldable pub layS : ℕ → List ℕ → ℕ → ℕ → List ℕ → ℕ → List ℕ → ℕ → Lay

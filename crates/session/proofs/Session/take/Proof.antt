@@ -12,35 +12,11 @@ mul-pair c = search needs
 add-pair : tie.Need-add-pair
 add-pair c = search needs
 
-labels-of-requires : tie.Need-labels-of-requires
-labels-of-requires c κs = search needs
+take-label-requires : tie.Need-take-label-requires
+take-label-requires c κs = search needs
 
-payloads-of-requires : tie.Need-payloads-of-requires
-payloads-of-requires c κs = search needs
-
-array-read-self : tie.Need-array-read-self
-array-read-self c = search needs
-
-array-read-t21 : tie.Need-array-read-t21
-array-read-t21 c = search needs
-
-array-read-self-2 : tie.Need-array-read-self-2
-array-read-self-2 c = search needs
-
-put-labels-requires : tie.Need-put-labels-requires
-put-labels-requires c κs = search needs
-
-array-read-t28 : tie.Need-array-read-t28
-array-read-t28 c = search needs
-
-array-read-t31 : tie.Need-array-read-t31
-array-read-t31 c = search needs
-
-array-read-t34 : tie.Need-array-read-t34
-array-read-t34 c = search needs
-
-put-payloads-requires : tie.Need-put-payloads-requires
-put-payloads-requires c κs = search needs
+take-payload-requires : tie.Need-take-payload-requires
+take-payload-requires c κs = search needs
 
 element-copy-out-self : tie.Need-element-copy-out-self
 element-copy-out-self c = search needs
@@ -57,18 +33,13 @@ mul-self c = search needs
 element-write-self-2 : tie.Need-element-write-self-2
 element-write-self-2 c = search needs
 
-array-read-t18 : tie.Need-array-read-t18
-array-read-t18 c = search needs
-
-array-read-t34-2 : tie.Need-array-read-t34-2
-array-read-t34-2 c = search needs
-
 returns : tie.Need-returns
 returns c =
-    let s = c .before .before .before .before .before .before .before .before .before .before .before .args .t1 in
-    taken-read s (c .before .before .before .before .before .before .before .before .before .before .before .args .sender) (c .before .before .before .before .before .before .before .before .before .before .before .args .receiver) (c .before .before .before .before .before .before .before .before .before .before .before .args .head) (c .before .before .before .before .before .before .before .before .before .before .before .pre .0) (c .before .before .before .before .before .before .before .before .before .before .before .pre .1)
-    (sym (length-map (s .labels) (λ x. x)) ∙ c .before .before .before .before .before .before .before .before .before .before .before .good .0 .1 .1 .1 .1 .0 .1 .0 .1) (sym (length-map (s .payloads) (λ x. x)) ∙ c .before .before .before .before .before .before .before .before .before .before .before .good .0 .1 .1 .1 .1 .1 .0 .1 .0 .1)
-    (c .before .before .before .before .before .before .before .before .labels-of .ensures) (c .before .before .before .before .before .payloads-of .ensures) (c .before .before .before .put-labels .ensures) (c .before .put-payloads .ensures)
+    let start = c .before .before .before .before .before in
+    let s = start .args .t1 in
+    taken-read s (start .args .sender) (start .args .receiver) (start .args .head) (start .pre .0) (start .pre .1)
+    (sym (length-map (s .labels) (λ x. x)) ∙ start .good .0 .1 .1 .1 .1 .0 .1 .0 .1) (sym (length-map (s .payloads) (λ x. x)) ∙ start .good .0 .1 .1 .1 .1 .1 .0 .1 .0 .1)
+    (c .before .before .before .take-label .ensures .0) (c .before .take-payload .ensures .0) (c .before .before .before .take-label .ensures .1) (c .before .take-payload .ensures .1)
 
 pub take-spec : {M : Type 1} → statement M
 take-spec =
@@ -76,21 +47,11 @@ take-spec =
     (tie.spec
     mul-pair
     add-pair
-    labels-of-requires
-    payloads-of-requires
-    array-read-self
-    array-read-t21
-    array-read-self-2
-    put-labels-requires
-    array-read-t28
-    array-read-t31
-    array-read-t34
-    put-payloads-requires
+    take-label-requires
+    take-payload-requires
     element-copy-out-self
     sub-self
     element-write-self
     mul-self
     element-write-self-2
-    array-read-t18
-    array-read-t34-2
     returns)

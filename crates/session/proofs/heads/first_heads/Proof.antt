@@ -8,20 +8,20 @@ use borrow.Author.Needs.{needs}
 use native.Mathlib.Nat.{add-mul, zero-mul}
 use native.Mathlib.Numerals.{add-one}
 use native.Mathlib.Omega.{arith}
-use Rattle.session.specs.Calls.{firstHeads}
+use Rattle.session.specs.mirror.Heads.{headsFrom}
 use Rattle.session.proofs.First.{one-head, no-head}
 use Rattle.session.proofs.heads.first_heads.Statement.{statement}
 use Rattle.session.proofs.heads.first_heads.Tie as tie
 
 abbrev Inv-loop : tie.InvT-loop
 Inv-loop tables roles rows heads₀ role₀ start₀ heads role start =
-    (role ≤ 8) × (start ≡ role * rows) × (start ≤ role * 256) × (heads ≡ firstHeads tables roles role ++ replicate (8 - role) 0)
+    (role ≤ 8) × (start ≡ role * rows) × (start ≤ role * 256) × (heads ≡ headsFrom tables roles rows role ++ replicate (8 - role) 0)
 
 abbrev μ-loop : tie.MeasureT-loop
 μ-loop tables roles rows heads₀ role₀ start₀ heads role start = 8 - role
 
 loop-holds : tie.Need-loop-holds Inv-loop μ-loop
-unfolding firstHeads
+unfolding headsFrom
 loop-holds c = (omega arith, omega (arith, zero-mul (c .before .args .rows)), omega arith, refl)
 
 head-requires : tie.Need-head-requires Inv-loop μ-loop
@@ -50,7 +50,7 @@ loop-again c =
       omega arith,
       rw add-one
           (⊎-elim
-          (λ w. w .2 ∙ one-head (c .before .before .before .before .args .tables .now) (c .before .before .before .before .args .roles) (c .before .before .before .before .args .rows) _ _ (c .before .before .loop .start) _ left (c .before .before .loop .inv .3) (c .before .before .before .before .pre .0) (c .before .before .loop .inv .1) (w .0 .taken) _ (w .1 .ensures))
+          (λ w. w .2 ∙ one-head (c .before .before .before .before .args .tables .now) (c .before .before .before .before .args .roles) (c .before .before .before .before .args .rows) _ _ (c .before .before .loop .start) _ left (c .before .before .loop .inv .3) (c .before .before .loop .inv .1) (w .0 .taken) _ (w .1 .ensures))
           (λ w. w .1 ∙ no-head (c .before .before .before .before .args .tables .now) (c .before .before .before .before .args .roles) (c .before .before .before .before .args .rows) _ _ (c .before .before .loop .start) _ left (c .before .before .loop .inv .3) (w .0 .left))
           (c .if1 .came)),
     )

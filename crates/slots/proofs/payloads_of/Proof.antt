@@ -1,8 +1,8 @@
 -- `slots::payloads_of` meets its contract. Assumes nothing.
 use native.Mathlib.Nat.{add-zero}
 use borrow.Author.Needs.{needs}
-use Rattle.session.proofs.slots.payloads_of.Statement.{statement}
-use Rattle.session.proofs.slots.payloads_of.Tie as tie
+use Rattle.slots.proofs.payloads_of.Statement.{statement}
+use Rattle.slots.proofs.payloads_of.Tie as tie
 
 mul-at : tie.Need-mul-at
 mul-at c = search needs

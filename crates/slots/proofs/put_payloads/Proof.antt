@@ -1,10 +1,11 @@
 -- `slots::put_payloads` meets its contract. Assumes nothing.
 use Prim.Native.Nat.{_*_}
+use mathlib.Core.Path.{refl}
 use lib.ListN.{getD}
-use Rattle.session.proofs.Queues.{four-sets}
+use Rattle.slots.proofs.Forward.{four-sets}
 use borrow.Author.Needs.{needs}
-use Rattle.session.proofs.slots.put_payloads.Statement.{statement}
-use Rattle.session.proofs.slots.put_payloads.Tie as tie
+use Rattle.slots.proofs.put_payloads.Statement.{statement}
+use Rattle.slots.proofs.put_payloads.Tie as tie
 
 mul-at : tie.Need-mul-at
 mul-at c = search needs
@@ -42,9 +43,6 @@ mul-payloads-3 c = search needs
 element-write-payloads-3 : tie.Need-element-write-payloads-3
 element-write-payloads-3 c = search needs
 
-array-read-payloads-4 : tie.Need-array-read-payloads-4
-array-read-payloads-4 c = search needs
-
 add-payloads-3 : tie.Need-add-payloads-3
 add-payloads-3 c = search needs
 
@@ -54,9 +52,11 @@ mul-payloads-4 c = search needs
 element-write-payloads-4 : tie.Need-element-write-payloads-4
 element-write-payloads-4 c = search needs
 
+array-read-result : tie.Need-array-read-result
+array-read-result c = search needs
+
 returns : tie.Need-returns
-returns c =
-    four-sets (c .args .payloads .now) (c .args .pair * 4) (getD (c .args .t3) 0 0) (getD (c .args .t3) 1 0) (getD (c .args .t3) 2 0) (getD (c .args .t3) 3 0)
+returns c = (refl, four-sets (c .args .payloads .now) (c .args .pair * 4) (getD (c .args .t3) 1 0) (getD (c .args .t3) 2 0) (getD (c .args .t3) 3 0) 0)
 
 pub put-payloads-spec : {M : Type 1} → statement M
 put-payloads-spec =
@@ -74,8 +74,8 @@ put-payloads-spec =
     add-payloads-2
     mul-payloads-3
     element-write-payloads-3
-    array-read-payloads-4
     add-payloads-3
     mul-payloads-4
     element-write-payloads-4
+    array-read-result
     returns)

@@ -1,10 +1,11 @@
 -- `slots::put_labels` meets its contract. Assumes nothing.
 use Prim.Native.Nat.{_*_}
+use mathlib.Core.Path.{refl}
 use lib.ListN.{getD}
-use Rattle.session.proofs.Queues.{four-sets}
+use Rattle.slots.proofs.Forward.{four-sets}
 use borrow.Author.Needs.{needs}
-use Rattle.session.proofs.slots.put_labels.Statement.{statement}
-use Rattle.session.proofs.slots.put_labels.Tie as tie
+use Rattle.slots.proofs.put_labels.Statement.{statement}
+use Rattle.slots.proofs.put_labels.Tie as tie
 
 mul-at : tie.Need-mul-at
 mul-at c = search needs
@@ -33,18 +34,17 @@ add-labels-2 c = search needs
 element-write-labels-3 : tie.Need-element-write-labels-3
 element-write-labels-3 c = search needs
 
-array-read-labels-4 : tie.Need-array-read-labels-4
-array-read-labels-4 c = search needs
-
 add-labels-3 : tie.Need-add-labels-3
 add-labels-3 c = search needs
 
 element-write-labels-4 : tie.Need-element-write-labels-4
 element-write-labels-4 c = search needs
 
+array-read-result : tie.Need-array-read-result
+array-read-result c = search needs
+
 returns : tie.Need-returns
-returns c =
-    four-sets (c .args .labels .now) (c .args .pair * 4) (getD (c .args .t3) 0 0) (getD (c .args .t3) 1 0) (getD (c .args .t3) 2 0) (getD (c .args .t3) 3 0)
+returns c = (refl, four-sets (c .args .labels .now) (c .args .pair * 4) (getD (c .args .t3) 1 0) (getD (c .args .t3) 2 0) (getD (c .args .t3) 3 0) 0)
 
 pub put-labels-spec : {M : Type 1} → statement M
 put-labels-spec =
@@ -59,7 +59,7 @@ put-labels-spec =
     array-read-labels-3
     add-labels-2
     element-write-labels-3
-    array-read-labels-4
     add-labels-3
     element-write-labels-4
+    array-read-result
     returns)
