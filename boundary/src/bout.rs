@@ -59,7 +59,8 @@ impl Deed {
 pub struct Bout {
     deed: Deed,
     roles: usize,
-    table: Vec<u16>,
+    /// The variants of the shape, for an opening.
+    variants: Vec<Vec<u16>>,
     tables: Vec<u16>,
     /// Before a send the fresh state; before the others the state after it. The same state for each side's type.
     second: second::Session,
@@ -79,18 +80,22 @@ impl Bout {
             return Err(format!("rows are {:?}, roles {:?}", shapes::ROWS, shapes::ROLES));
         }
         let shape = if let Deed::Open(shape) = deed { shape } else { Shape::Line };
-        let table = shape.table(rows, roles);
-        let mut tables = vec![0; roles * table.len()];
-        let opened = second::open(&table, roles as u32, &mut tables);
+        let variants: Vec<_> =
+            (0..shapes::VARIANTS).map(|variant| shape.table(rows, roles, variant)).collect();
+        let mut tables = vec![0; roles * variants[0].len()];
+        let all_open = variants
+            .iter()
+            .rev()
+            .all(|table| second::open(table, roles as u32, &mut tables).number == ACCEPTED);
         let (made, mut session) = second::fresh(&tables, roles as u32);
         if matches!(deed, Deed::Receive | Deed::Awaited) {
             session = sent(session, &tables, roles).1;
         }
-        if (opened.number, made) != (ACCEPTED, ACCEPTED) {
+        if !all_open || made != ACCEPTED {
             return Err(format!("{} of {rows} rows and {roles} roles does not open", deed.name()));
         }
         let ours = ours_of(&session);
-        Ok(Bout { deed, roles, table, tables, second: session, ours })
+        Ok(Bout { deed, roles, variants, tables, second: session, ours })
     }
 
     /// Makes the calls; gives the sum of what they answer.
@@ -107,11 +112,15 @@ impl Bout {
         }
     }
 
+    fn in_turn(&self, calls: u64) -> impl Iterator<Item = &Vec<u16>> {
+        self.variants.iter().cycle().take(calls as usize)
+    }
+
     fn open_ours(&self, calls: u64) -> u64 {
         let mut room = vec![0; self.tables.len()];
         let mut sum = 0;
-        for _ in 0..calls {
-            let (number, place) = gaugetwinkle::open(black_box(&self.table), self.roles, &mut room);
+        for table in self.in_turn(calls) {
+            let (number, place) = gaugetwinkle::open(black_box(table), self.roles, &mut room);
             sum += u64::from(number) + place as u64;
         }
         sum + sum_of(&room)
@@ -120,8 +129,8 @@ impl Bout {
     fn open_second(&self, calls: u64) -> u64 {
         let mut room = vec![0; self.tables.len()];
         let mut sum = 0;
-        for _ in 0..calls {
-            let verdict = second::open(black_box(&self.table), self.roles as u32, &mut room);
+        for table in self.in_turn(calls) {
+            let verdict = second::open(black_box(table), self.roles as u32, &mut room);
             sum += u64::from(verdict.number) + u64::from(verdict.place);
         }
         sum + sum_of(&room)

@@ -257,7 +257,7 @@ impl Fuzz {
     fn long(&mut self) -> Result<(), Stop> {
         let roles = self.random.between(2, MOST_ROLES);
         let shape = self.random.pick(&shapes::ALL).unwrap_or(shapes::Shape::Line);
-        let mut words = shape.table(MOST_ROWS, roles);
+        let mut words = shape.table(MOST_ROWS, roles, self.random.below(shapes::VARIANTS));
         let rows = self.random.between(MOST_ROWS - 1, MOST_ROWS + 1);
         words.resize(if self.random.chance(70) { words.len() } else { rows * ROW }, 0);
         if self.random.chance(30) {

@@ -19,6 +19,10 @@ pub const ALL: [Shape; 3] = [Shape::Line, Shape::Wide, Shape::Loops];
 pub const ROWS: [usize; 4] = [16, 64, 128, 256];
 pub const ROLES: [usize; 2] = [2, 8];
 
+/// How many variants of a table are opened in turn: of one table alone a processor learns every jump by heart, the better the smaller
+/// it is.
+pub const VARIANTS: usize = 16;
+
 /// Labels are 0 to 63, so a choice has at most so many arms.
 const MOST_ARMS: usize = 64;
 
@@ -31,22 +35,23 @@ impl Shape {
         }
     }
 
-    /// The global table.
-    pub fn table(self, row_count: usize, roles: usize) -> Vec<u16> {
+    /// The global table. A variant has other roles in its exchanges, and the same rows otherwise; variant 0 has the first exchange of
+    /// a line between the roles 0 and 1.
+    pub fn table(self, row_count: usize, roles: usize, variant: usize) -> Vec<u16> {
         let plan = match self {
-            Shape::Line => line(row_count, roles),
-            Shape::Wide => wide(row_count, roles),
-            Shape::Loops => loops(row_count, roles),
+            Shape::Line => line(row_count, roles, variant),
+            Shape::Wide => wide(row_count, roles, variant),
+            Shape::Loops => loops(row_count, roles, variant),
         };
         rows(&plan, None)
     }
 }
 
 /// A Loop and a Back beside two rows for each exchange.
-fn line(row_count: usize, roles: usize) -> Plan {
+fn line(row_count: usize, roles: usize, variant: usize) -> Plan {
     let exchanges = (row_count - 2) / 2;
     let around = (0..exchanges).rev().fold(Plan::Back(0), |then, at| {
-        let (sender, receiver) = neighbours(at, roles);
+        let (sender, receiver) = talkers(at, roles, variant);
         exchange(sender, receiver, at % 64, then)
     });
     Plan::Loop(Box::new(around))
@@ -54,7 +59,7 @@ fn line(row_count: usize, roles: usize) -> Plan {
 
 /// A Loop and the choice beside, for each arm, its row, its Back and two rows for each bystander that is told. The
 /// rows that are left over are exchanges of the two that know, in the last arm.
-fn wide(row_count: usize, roles: usize) -> Plan {
+fn wide(row_count: usize, roles: usize, variant: usize) -> Plan {
     // In pairs of rows: an arm with its Back is one, an exchange is one.
     let pairs = (row_count - 2) / 2;
     // At least three arms, if need be with fewer bystanders told; the others are in no arm.
@@ -64,25 +69,33 @@ fn wide(row_count: usize, roles: usize) -> Plan {
     let arms = (0..count).map(|at| {
         let more = if at == count - 1 { left_over } else { 0 };
         let talk = (0..more).fold(Plan::Back(0), |then, _| exchange(0, 1, 0, then));
-        let then = (2..2 + told).rev().fold(talk, |then, bystander| exchange(1, bystander, at, then));
+        let then = (0..told)
+            .rev()
+            .fold(talk, |then, turn| exchange(1, 2 + (turn + variant) % told.max(1), at, then));
         (at as u16, then)
     });
     Plan::Loop(Box::new(Plan::Exchange(0, 1, arms.collect())))
 }
 
 /// Three rows for each Loop with its exchange, and the Back. The rows that are left over are Loops around it all.
-fn loops(row_count: usize, roles: usize) -> Plan {
+fn loops(row_count: usize, roles: usize, variant: usize) -> Plan {
     let (depth, left_over) = ((row_count - 1) / 3, (row_count - 1) % 3);
     let outermost = Plan::Back((depth + left_over - 1) as u16);
     let inner = (0..depth).rev().fold(outermost, |body, at| {
-        let (sender, receiver) = neighbours(at, roles);
+        let (sender, receiver) = talkers(at, roles, variant);
         Plan::Loop(Box::new(exchange(sender, receiver, at % 64, body)))
     });
     (0..left_over).fold(inner, |body, _| Plan::Loop(Box::new(body)))
 }
 
-fn neighbours(at: usize, roles: usize) -> (usize, usize) {
-    (at % roles, (at + 1) % roles)
+/// The roles of an exchange: a role and the next one in variant 0, others in no order that repeats in the others.
+fn talkers(at: usize, roles: usize, variant: usize) -> (usize, usize) {
+    if variant == 0 {
+        return (at % roles, (at + 1) % roles);
+    }
+    let mixed = (at * VARIANTS + variant).wrapping_mul(0x9E37_79B9_7F4A_7C15) >> 32;
+    let sender = mixed % roles;
+    (sender, (sender + 1 + mixed / roles % (roles - 1)) % roles)
 }
 
 fn exchange(sender: usize, receiver: usize, label: usize, then: Plan) -> Plan {

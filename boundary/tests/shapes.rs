@@ -1,7 +1,7 @@
 //! Each shape at each size opens in `second/`, and has exactly the rows that were asked for.
 
 use boundary::bout::{Bout, Who, DEEDS};
-use boundary::shapes::{ALL, ROLES, ROWS};
+use boundary::shapes::{ALL, ROLES, ROWS, VARIANTS};
 use second::limits::ROW;
 use second::numbers::ACCEPTED;
 
@@ -10,11 +10,13 @@ fn every_shape_opens() {
     for shape in ALL {
         for rows in ROWS {
             for roles in 2..=8 {
-                let table = shape.table(rows, roles);
-                assert_eq!(table.len(), rows * ROW, "{shape:?} {rows} {roles}");
-                let mut room = vec![0; roles * table.len()];
-                let verdict = second::open(&table, roles as u32, &mut room);
-                assert_eq!(verdict.number, ACCEPTED, "{shape:?} {rows} {roles}: {verdict:?}");
+                for variant in 0..VARIANTS {
+                    let table = shape.table(rows, roles, variant);
+                    assert_eq!(table.len(), rows * ROW, "{shape:?} {rows} {roles} {variant}");
+                    let mut room = vec![0; roles * table.len()];
+                    let verdict = second::open(&table, roles as u32, &mut room);
+                    assert_eq!(verdict.number, ACCEPTED, "{shape:?} {rows} {roles} {variant}: {verdict:?}");
+                }
             }
         }
     }

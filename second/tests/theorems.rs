@@ -49,7 +49,9 @@ fn cited<'a>(text: &'a str, last: &[PathBuf]) -> Option<(Vec<PathBuf>, &'a str)>
 /// Whether a text is meant as a citation: `crate/..` of a crate that is there, or a bare name behind one.
 fn is_citation(text: &str, last: &[PathBuf]) -> bool {
     match text.split_once('/') {
-        Some((crate_name, rest)) => repository().join("crates").join(crate_name).is_dir() && !rest.starts_with("must-fail/"),
+        Some((crate_name, rest)) => {
+            repository().join("crates").join(crate_name).is_dir() && !rest.starts_with("must-fail/")
+        }
         None => !last.is_empty() && !text.contains(' ') && !text.contains('='),
     }
 }
@@ -78,7 +80,8 @@ fn check_document(name: &str) -> usize {
                 assert!(edit_file(text).is_file(), "{place} is no must-fail edit");
                 found += 1;
             } else if is_citation(text, &last) {
-                let (files, cited_name) = cited(text, &last).unwrap_or_else(|| panic!("{place} names no file"));
+                let (files, cited_name) =
+                    cited(text, &last).unwrap_or_else(|| panic!("{place} names no file"));
                 assert!(files.iter().any(|file| declares(file, cited_name)), "{place} is not declared");
                 last = files;
                 found += 1;

@@ -1,6 +1,6 @@
 -- The steps of the projection, one lemma for each way that a call returns. Assumes nothing.
 use Prim.Native.Nat.{ℕ, zero, suc, _+_, _*_, _<_, _≤_}
-use mathlib.Core.Bool.{Bool, true, false, cond, _&&_, _||_, true≢false}
+use mathlib.Core.Bool.{Bool, true, false, not, cond, _&&_, _||_, true≢false}
 use mathlib.Core.List.{List, [], _∷_, _++_, append-assoc}
 use mathlib.Core.Option.{Option, none, some, bind}
 use mathlib.Core.Path.{_≡_, refl, sym, _∙_, ap, subst}
@@ -8,7 +8,8 @@ use native.Mathlib.Omega.{arith}
 use lib.Dec.{leb, eqb}
 use lib.ListN.{length, getD, set, length-append}
 use lib.Seq.{set-at, append-snoc}
-use borrow.Author.Tests.{ne-eqb}
+use borrow.Author.Tests.{ne-eqb, eqb-true, not-true}
+use Rattle.words.proofs.Below.{and-both}
 use Rattle.words.specs.Rows.{word}
 use Rattle.table.specs.Tree.{Global, end, exchange, flight, loop, back, Arms, nil, arm}
 use Rattle.table.specs.Kept.{Good, g-exchange, g-loop, GoodArms, g-nil, g-arm, rowsIn, rowsInArms}
@@ -246,6 +247,22 @@ own-step {r} {t} {kept} {order} {i} {left} {less} {n} {work₀ = work₀} {work�
         own-arm (subst (λ (w : ℕ). Pushed work₀ at w work₁ e) (read .word-is (rw b q) ∙ ap (code 2) b) push) project own len₁ len₂ spare₁ o (rw (read .cont-is ∙ d) g) (rw en x) s
         (rw el at f) (plain-arm q y m ps) k sp
 
+and-true : (b : Bool) → (b && true) ≡ b
+and-true true = refl
+and-true false = refl
+
+-- an action of one arm, whose mark is put right behind its part
+pub sole-step : {r : ℕ} {t kept order : List ℕ} {left less fewer : ℕ} {work work₁ work₂ work₃ work₄ spare : List ℕ} {at w next e₁ e₂ e₄ : ℕ} (c : Arm) {one : Projected}
+    → left ≡ suc less → less ≡ suc fewer → (not (eqb next 0 || eqb less 0) && eqb (getD order next 0) 0) ≡ true → ArmRead t next c
+    → Pushed work at w work₁ e₁ → Pushed work₁ e₁ (c .word) work₂ e₂ → Projects r t kept order fewer (c .cont) work₂ e₂ spare work₃ one
+    → Pushed work₃ (one .at) (code 1 0) work₄ e₄ → length work₁ ≡ length work → length work₂ ≡ length work₁ → length work₃ ≡ length work₁
+    → Chooses 2 r t kept order left w next work at spare work₄ (record { ok = one .ok; at = e₄ })
+sole-step {r} {t} {kept} {order} {less = less} {work₁ = work₁} {work₄ = work₄} {spare} {next = next} {e₁} {e₄ = e₄} c {one} el ef is read push₁ push₂ project mark len₁ len₂ len₃ =
+    let (on, last) = and-both (not (eqb next 0 || eqb less 0)) (eqb (getD order next 0) 0) is in
+    action-step el push₁ len₁
+    (subst (λ (b : Bool). Owns r t kept order less next work₁ e₁ spare work₄ (record { ok = b; at = e₄ })) (and-true (one .ok))
+    (own-step c (not-true (eqb next 0 || eqb less 0) on) ef read (sym (eqb-true (getD order next 0) 0 last)) push₂ project (own-end {i = 0} spare refl mark) len₂ len₃ refl))
+
 -- ---- an exchange of others
 
 -- the first arm of a chain, and the arms behind it
@@ -385,3 +402,7 @@ some-left i zero e = absurd (true≢false (last (eqb i 0) e))
     last true e = e
     last false e = e
 some-left i (suc n) e = omega arith
+
+-- links are left for the only arm of an action
+pub sole-left : (i left : ℕ) (b : Bool) → (not (eqb i 0 || eqb left 0) && b) ≡ true → 0 < left
+sole-left i left b e = some-left i left (not-true (eqb i 0 || eqb left 0) (and-both (not (eqb i 0 || eqb left 0)) b e .0))

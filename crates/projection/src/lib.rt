@@ -3,9 +3,11 @@
 // role needs of the table is found once: `kept`, the roles that stay in each Loop, and `order`, the arms of each chain in rising label order.
 use table::Table;
 ghost use mathlib.Core.Path.{_≡_};
+ghost use mathlib.Core.Bool.{not, _&&_, _||_};
 ghost use mathlib.Core.List.{List};
 ghost use Prim.Native.Nat.{ℕ, _+_, _*_, _<_, _≤_};
-ghost use lib.ListN.{length};
+ghost use lib.Dec.{eqb};
+ghost use lib.ListN.{length, getD};
 ghost use Rattle.words.specs.Rows.{rowsOf};
 ghost use Rattle.table.specs.Limits.{base};
 ghost use Rattle.table.specs.Check.{accepted, checkOf};
@@ -217,6 +219,13 @@ fn ahead(table: &[u16], kept: &[u16], order: &[u16], row: usize, role: usize, le
     }
 }
 
+// The arm is the only one of its action, and links are left for it.
+fn sole(order: &[u16], arm: usize, left: usize) -> bool
+    ensures { λ r. ⌜ r ≡ (not (eqb arm 0 || eqb left 0) && eqb (getD (now (order .entry)) arm 0) 0) ⌝ }
+{
+    !((arm == 0) | (left == 0)) & (words::peek(order, arm) == 0)
+}
+
 // Puts the part of a role in the tree of a row on the stack; at most `left` links are followed.
 fn project(
     table: &[u16],
@@ -248,6 +257,27 @@ fn project(
         }
         2 => {
             let arms = push(work, at, way.word);
+            // With one arm, its part and the mark behind it: no frame of `own` stands between the calls of a long talk.
+            if sole(order, way.next, less) {
+                let arm = arm_at(table, way.next);
+                let cont = push(work, arms, arm.word);
+                let part = project(
+                    table,
+                    kept,
+                    order,
+                    arm.cont,
+                    role,
+                    work,
+                    cont,
+                    spare,
+                    less - 1,
+                );
+                let end = push(work, part.at, MARK);
+                return Projected {
+                    ok: part.ok,
+                    at: end,
+                };
+            }
             own(table, kept, order, way.next, role, work, arms, spare, less)
         }
         _ => {

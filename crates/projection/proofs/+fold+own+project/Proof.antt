@@ -1,10 +1,12 @@
 -- `projection::project`, `own` and `fold` meet their contracts: each way that a call returns is a step of proofs/Steps.antt, and the measure is the
 -- number of links left to follow. Assumes nothing.
-use mathlib.Core.Path.{refl, _∙_}
+use mathlib.Core.Path.{refl, sym, _∙_}
 use native.Mathlib.Omega.{arith}
+use lib.Dec.{eqb}
+use lib.ListN.{getD}
 use borrow.Author.Needs.{needs}
 use Rattle.projection.proofs.Join.{joins-is}
-use Rattle.projection.proofs.Steps.{chosen, more-than-two, some-left, no-links, leaf-step, loop-step, action-step, others-step, own-end, own-step, fold-end, fold-step}
+use Rattle.projection.proofs.Steps.{chosen, more-than-two, some-left, sole-left, sole-step, no-links, leaf-step, loop-step, action-step, others-step, own-end, own-step, fold-end, fold-step}
 use Prim.Native.Nat.{ℕ, _-_, _<_}
 use borrow.Fn.Kinds.{In}
 use borrow.Fn.PlainCycle.{Measures, is, falls, and}
@@ -21,6 +23,7 @@ use Rattle.merge.proofs.join.Reads as join-reads
 use Rattle.projection.proofs.arm_at.Reads as arm-at-reads
 use Rattle.projection.proofs.ahead.Reads as ahead-reads
 use Rattle.projection.proofs.push.Reads as push-reads
+use Rattle.projection.proofs.sole.Reads as sole-reads
 use Rattle.words.proofs.peek.Reads as peek-reads
 use Rattle.words.proofs.wide.Reads as wide-reads
 use Rattle.projection.proofs.+fold+own+project.{statement}
@@ -180,10 +183,12 @@ project-calls t = (
   push-reads.Learnt,
   project-below t,
   project.Post,
-  own-below t,
-  own.Post,
+  sole-reads.Asked,
+  sole-reads.Learnt,
   arm-at-reads.Asked,
   arm-at-reads.Learnt,
+  own-below t,
+  own.Post,
   fold-below t,
   fold.Post,
 )
@@ -213,39 +218,71 @@ project-project-requires t c κs = (fewer t (c .before .before .before .before .
 project-push-requires-3 : (t : ℕ) → project-lts.Need-push-requires-3 (project-calls t) (project-at t) project.Post
 project-push-requires-3 t c κs = search needs
 
-project-own-requires : (t : ℕ) → project-lts.Need-own-requires (project-calls t) (project-at t) project.Post
-project-own-requires t c κs = (fewer t (c .before .before .before .before .before .before .before), tt)
+project-sole-requires : (t : ℕ) → project-lts.Need-sole-requires (project-calls t) (project-at t) project.Post
+project-sole-requires t c κs = search needs
+
+-- the only arm of an action has a link left
+room-left : (t : ℕ) (c : project-lts.Then2 (project-calls t) (project-at t) project.Post) → 0 < c .before .before .before .before .before .before .before .before .before .before .ahead .result .left - 1
+room-left t c =
+    let way = c .before .before .before .before .before .before .before .before .before .before .ahead .result in
+    let order = c .before .before .before .before .before .before .before .before .before .before .before .before .before .before .before .before .args .order .now in
+    sole-left (way .next) (way .left - 1) (eqb (getD order (way .next) 0) 0) (sym (c .before .sole .ensures) ∙ c .if2 .taken)
 
 project-arm-at-requires : (t : ℕ) → project-lts.Need-arm-at-requires (project-calls t) (project-at t) project.Post
 project-arm-at-requires t c κs = search needs
 
-project-project-requires-2 : (t : ℕ) → project-lts.Need-project-requires-2 (project-calls t) (project-at t) project.Post
-project-project-requires-2 t c κs = (fewer t (c .before .before .before .before), tt)
+project-push-requires-4 : (t : ℕ) → project-lts.Need-push-requires-4 (project-calls t) (project-at t) project.Post
+project-push-requires-4 t c κs = search needs
 
-project-fold-requires : (t : ℕ) → project-lts.Need-fold-requires (project-calls t) (project-at t) project.Post
-project-fold-requires t c κs = (fewer t (c .before .before .before .before .before .before .before .before .before .before .before), tt)
+project-sub-project : (t : ℕ) → project-lts.Need-sub-project (project-calls t) (project-at t) project.Post
+project-sub-project t c = room-left t (c .before .before .before .before .before .before .before)
+
+project-project-requires-2 : (t : ℕ) → project-lts.Need-project-requires-2 (project-calls t) (project-at t) project.Post
+project-project-requires-2 t c κs = (omega (arith, fewer t (c .before .before .before .before .before .before .before .before .before .before .before .before .before .before)), tt)
+
+project-push-requires-5 : (t : ℕ) → project-lts.Need-push-requires-5 (project-calls t) (project-at t) project.Post
+project-push-requires-5 t c κs = search needs
 
 project-same-length : (t : ℕ) → project-lts.Need-same-length (project-calls t) (project-at t) project.Post
 project-same-length t c = search needs
 
-project-returns-2 : (t : ℕ) → project-lts.Need-returns-2 (project-calls t) (project-at t) project.Post
-project-returns-2 t c =
-    let branch = c .before .before .before .before in
-    chosen (branch .before .before .before .before .ahead .ensures) (branch .match .keys1) (leaf-step _ (c .before .before .push .ensures))
-
 project-same-length-2 : (t : ℕ) → project-lts.Need-same-length-2 (project-calls t) (project-at t) project.Post
 project-same-length-2 t c = search needs
+
+project-returns-2 : (t : ℕ) → project-lts.Need-returns-2 (project-calls t) (project-at t) project.Post
+project-returns-2 t c =
+    let mark = c .before .before in
+    let part = c .before .before .before .before .before .before .before .before in
+    let word = c .before .before .before .before .before .before .before .before .before .before .before .before .before in
+    let arm = c .before .before .before .before .before .before .before .before .before .before .before .before .before .before .before in
+    let only = c .before .before .before .before .before .before .before .before .before .before .before .before .before .before .before .before in
+    let first = c .before .before .before .before .before .before .before .before .before .before .before .before .before .before .before .before .before .before .before .before in
+    let branch = c .before .before .before .before .before .before .before .before .before .before .before .before .before .before .before .before .before .before .before .before .before .before in
+    let room = room-left t only in
+    chosen (branch .before .before .before .before .ahead .ensures) (branch .match .keys3)
+    (sole-step {less = branch .before .before .before .before .ahead .result .left - 1} _ (omega (arith, branch .before .before .if1 .left)) (omega (arith, room)) (sym (only .before .sole .ensures) ∙ only .if2 .taken) (arm .arm-at .ensures)
+    (first .push3 .ensures) (word .push4 .ensures) (part .project2 .ensures) (mark .push5 .ensures) (first .push3 .kept .0) (word .push4 .kept .0)
+    (part .project2 .kept .1 .1 .1 .1 .1 .0 ∙ word .push4 .kept .0))
+
+project-own-requires : (t : ℕ) → project-lts.Need-own-requires (project-calls t) (project-at t) project.Post
+project-own-requires t c κs = (fewer t (c .before .before .before .before .before .before .before .before .before), tt)
+
+project-arm-at-requires-2 : (t : ℕ) → project-lts.Need-arm-at-requires-2 (project-calls t) (project-at t) project.Post
+project-arm-at-requires-2 t c κs = search needs
+
+project-project-requires-3 : (t : ℕ) → project-lts.Need-project-requires-3 (project-calls t) (project-at t) project.Post
+project-project-requires-3 t c κs = (fewer t (c .before .before .before .before), tt)
+
+project-fold-requires : (t : ℕ) → project-lts.Need-fold-requires (project-calls t) (project-at t) project.Post
+project-fold-requires t c κs = (fewer t (c .before .before .before .before .before .before .before .before .before .before .before), tt)
 
 project-same-length-3 : (t : ℕ) → project-lts.Need-same-length-3 (project-calls t) (project-at t) project.Post
 project-same-length-3 t c = search needs
 
 project-returns-3 : (t : ℕ) → project-lts.Need-returns-3 (project-calls t) (project-at t) project.Post
 project-returns-3 t c =
-    let body = c .before .before .before .before in
-    let word = c .before .before .before .before .before .before .before .before .before in
-    let branch = c .before .before .before .before .before .before .before .before .before .before .before in
-    chosen (branch .before .before .before .before .ahead .ensures) (branch .match .keys2)
-    (loop-step (omega (arith, branch .before .before .if1 .left)) (word .push2 .ensures) (word .push2 .kept .0) (body .project .ensures))
+    let branch = c .before .before .before .before in
+    chosen (branch .before .before .before .before .ahead .ensures) (branch .match .keys1) (leaf-step _ (c .before .before .push .ensures))
 
 project-same-length-4 : (t : ℕ) → project-lts.Need-same-length-4 (project-calls t) (project-at t) project.Post
 project-same-length-4 t c = search needs
@@ -255,11 +292,11 @@ project-same-length-5 t c = search needs
 
 project-returns-4 : (t : ℕ) → project-lts.Need-returns-4 (project-calls t) (project-at t) project.Post
 project-returns-4 t c =
-    let arms = c .before .before .before .before in
+    let body = c .before .before .before .before in
     let word = c .before .before .before .before .before .before .before .before .before in
     let branch = c .before .before .before .before .before .before .before .before .before .before .before in
-    chosen (branch .before .before .before .before .ahead .ensures) (branch .match .keys3)
-    (action-step (omega (arith, branch .before .before .if1 .left)) (word .push3 .ensures) (word .push3 .kept .0) (arms .own .ensures))
+    chosen (branch .before .before .before .before .ahead .ensures) (branch .match .keys2)
+    (loop-step (omega (arith, branch .before .before .if1 .left)) (word .push2 .ensures) (word .push2 .kept .0) (body .project .ensures))
 
 project-same-length-6 : (t : ℕ) → project-lts.Need-same-length-6 (project-calls t) (project-at t) project.Post
 project-same-length-6 t c = search needs
@@ -269,13 +306,27 @@ project-same-length-7 t c = search needs
 
 project-returns-5 : (t : ℕ) → project-lts.Need-returns-5 (project-calls t) (project-at t) project.Post
 project-returns-5 t c =
+    let arms = c .before .before .before .before in
+    let word = c .before .before .before .before .before .before .before .before .before .before .before in
+    let branch = c .before .before .before .before .before .before .before .before .before .before .before .before .before in
+    chosen (branch .before .before .before .before .ahead .ensures) (branch .match .keys3)
+    (action-step (omega (arith, branch .before .before .if1 .left)) (word .push3 .ensures) (word .push3 .kept .0) (arms .own .ensures))
+
+project-same-length-8 : (t : ℕ) → project-lts.Need-same-length-8 (project-calls t) (project-at t) project.Post
+project-same-length-8 t c = search needs
+
+project-same-length-9 : (t : ℕ) → project-lts.Need-same-length-9 (project-calls t) (project-at t) project.Post
+project-same-length-9 t c = search needs
+
+project-returns-6 : (t : ℕ) → project-lts.Need-returns-6 (project-calls t) (project-at t) project.Post
+project-returns-6 t c =
     let all = c .before .before .before .before .before .before in
     let first = c .before .before .before .before .before .before .before .before .before .before .before .before .before in
     let arm = c .before .before .before .before .before .before .before .before .before .before .before .before .before .before .before .before in
     let branch = c .before .before .before .before .before .before .before .before .before .before .before .before .before .before .before .before .before in
     chosen (branch .before .before .before .before .ahead .ensures) refl
     (others-step _ (omega (arith, branch .before .before .if1 .left)) (more-than-two _ (branch .match .rest .0 .0 .1) (branch .match .rest .0 .1) (branch .match .rest .1))
-    (arm .arm-at .ensures) (first .project2 .kept .1 .1 .1 .1 .1 .0) (first .project2 .kept .1 .1 .1 .1 .1 .1 .1 .0) (first .project2 .ensures) (all .fold .ensures))
+    (arm .arm-at2 .ensures) (first .project3 .kept .1 .1 .1 .1 .1 .0) (first .project3 .kept .1 .1 .1 .1 .1 .1 .1 .0) (first .project3 .ensures) (all .fold .ensures))
 
 pub +fold+own+project-spec : {M : Type 1} → statement M
 +fold+own+project-spec = close μ-fold μ-own μ-project (λ t. fold-lts.spec (fold-calls t)
@@ -316,13 +367,19 @@ pub +fold+own+project-spec : {M : Type 1} → statement M
     (project-push-requires-2 t)
     (project-project-requires t)
     (project-push-requires-3 t)
-    (project-own-requires t)
+    (project-sole-requires t)
     (project-arm-at-requires t)
+    (project-push-requires-4 t)
+    (project-sub-project t)
     (project-project-requires-2 t)
-    (project-fold-requires t)
+    (project-push-requires-5 t)
     (project-same-length t)
-    (project-returns-2 t)
     (project-same-length-2 t)
+    (project-returns-2 t)
+    (project-own-requires t)
+    (project-arm-at-requires-2 t)
+    (project-project-requires-3 t)
+    (project-fold-requires t)
     (project-same-length-3 t)
     (project-returns-3 t)
     (project-same-length-4 t)
@@ -330,4 +387,7 @@ pub +fold+own+project-spec : {M : Type 1} → statement M
     (project-returns-4 t)
     (project-same-length-6 t)
     (project-same-length-7 t)
-    (project-returns-5 t))
+    (project-returns-5 t)
+    (project-same-length-8 t)
+    (project-same-length-9 t)
+    (project-returns-6 t))
