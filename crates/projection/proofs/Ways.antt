@@ -1,15 +1,15 @@
 -- Rows that ask nothing of a role are passed: the part of an exchange of others with one arm is that of the arm. Assumes nothing.
-use Prim.Native.Nat.{ℕ, zero, suc, _+_, _<_, _≤_}
+use Prim.Native.Nat.{ℕ, suc, _≤_}
 use mathlib.Core.Bool.{Bool, true, false, cond}
 use mathlib.Core.List.{List}
 use mathlib.Core.Option.{Option, none, some, bind}
-use mathlib.Core.Path.{_≡_, refl, sym, _∙_, ap, subst}
+use mathlib.Core.Path.{_≡_, refl, _∙_, ap, subst}
 use native.Mathlib.Omega.{arith}
 use lib.Dec.{eqb}
 use borrow.Author.Tests.{eqb-true}
 use Rattle.words.specs.Rows.{word}
 use Rattle.table.specs.Tree.{Global, exchange, Arms, nil, arm}
-use Rattle.table.specs.Kept.{Good, g-exchange, g-arm, rowsIn, rowsInArms}
+use Rattle.table.specs.Kept.{Good, g-exchange, g-arm, rowsIn}
 use Rattle.parts.specs.Part.{Part, PartArms, p-nil, p-arm}
 use Rattle.parts.specs.Projection.{part, partArms, partExchange, mergeFrom, mergeAll}
 use Rattle.parts.specs.mirror.Grows.{Grows, Chain, chain-last, chain-more}

@@ -102,9 +102,16 @@ lay-same-length-4 : (t : ℕ) → lay-lts.Need-same-length-4 (lay-calls t) (lay-
 lay-same-length-4 t c = search needs
 
 lay-returns-2 : (t : ℕ) → lay-lts.Need-returns-2 (lay-calls t) (lay-at t) lay.Post lay-Inv-loop lay-μ-loop
-lay-returns-2 t c = let a = c .before .before .before .before .before .before .before .before .before .before .before .before .before .args in
-    let h = c .before .before .before .before .before .before .before .before .before .loop in
-    lay-last _ (h .left) (a .src .now) (a .from) (h .code) (h .out) (h .row) (h .loops) (h .depth) (h .inv .0) _ (c .before .before .before .before .before .before .before .before .in-range .ensures) (c .before .before .before .before .before .before .before .if1 .left) _ (c .before .before .before .before .before .before .peek .ensures) (c .before .before .before .before .before .match .keys1) _ (c .before .before .put-last .ensures)
+lay-returns-2 t c =
+    let branch = c .before .before .before .before .before in
+    let word = branch .before in
+    let test = word .before in
+    let range = test .before in
+    let turn = range .before in
+    let a = turn .before .before .before .before .args in
+    let h = turn .loop in
+    lay-last _ (h .left) (a .src .now) (a .from) (h .code) (h .out) (h .row) (h .loops) (h .depth) (h .inv .0) _
+    (range .in-range .ensures) (test .if1 .left) _ (word .peek .ensures) (branch .match .keys1) _ (c .before .before .put-last .ensures)
 
 lay-add-t21 : (t : ℕ) → lay-lts.Need-add-t21 (lay-calls t) (lay-at t) lay.Post lay-Inv-loop lay-μ-loop
 lay-add-t21 t c = omega (arith, lay-in t (c .before .before))
@@ -116,9 +123,16 @@ lay-same-length-6 : (t : ℕ) → lay-lts.Need-same-length-6 (lay-calls t) (lay-
 lay-same-length-6 t c = search needs
 
 lay-returns-3 : (t : ℕ) → lay-lts.Need-returns-3 (lay-calls t) (lay-at t) lay.Post lay-Inv-loop lay-μ-loop
-lay-returns-3 t c = let a = c .before .before .before .before .before .before .before .before .args in
-    let h = c .before .before .before .before .loop in
-    lay-close _ (h .left) (a .src .now) (a .from) (h .code) (h .out) (h .row) (h .loops) (h .depth) (h .inv .0) _ (c .before .before .before .in-range .ensures) (c .before .before .if1 .left) _ (c .before .peek .ensures) (c .match .keys2)
+lay-returns-3 t c =
+    let branch = c in
+    let word = branch .before in
+    let test = word .before in
+    let range = test .before in
+    let turn = range .before in
+    let a = turn .before .before .before .before .args in
+    let h = turn .loop in
+    lay-close _ (h .left) (a .src .now) (a .from) (h .code) (h .out) (h .row) (h .loops) (h .depth) (h .inv .0) _
+    (range .in-range .ensures) (test .if1 .left) _ (word .peek .ensures) (branch .match .keys2)
 
 lay-add-lay : (t : ℕ) → lay-lts.Need-add-lay (lay-calls t) (lay-at t) lay.Post lay-Inv-loop lay-μ-loop
 lay-add-lay t c = omega (arith, lay-in t (c .before .before))
@@ -156,9 +170,20 @@ lay-loop-less-2 : (t : ℕ) → lay-lts.Need-loop-less-2 (lay-calls t) (lay-at t
 lay-loop-less-2 t c = omega (arith, lay-in t (c .before .before .before .before .before .before .before .before .before))
 
 lay-loop-again-2 : (t : ℕ) → lay-lts.Need-loop-again-2 (lay-calls t) (lay-at t) lay.Post lay-Inv-loop lay-μ-loop
-lay-loop-again-2 t c = let a = c .before .before .before .before .before .before .before .before .before .before .before .before .before .before .before .args in
-    let h = c .before .before .before .before .before .before .before .before .before .before .before .loop in
-    (lay-loop _ (h .left) (a .src .now) (a .from) (h .code) (h .out) (h .row) (h .loops) (h .depth) (h .inv .0) _ (c .before .before .before .before .before .before .before .before .before .before .in-range .ensures) (c .before .before .before .before .before .before .before .before .before .if1 .left) _ (c .before .before .before .before .before .before .before .before .peek .ensures) (c .before .before .before .before .before .before .before .match .keys4) _ _ (c .before .before .before .before .put-loop .ensures .0) (c .before .before .before .before .put-loop .ensures .1), search needs, search needs, omega (arith, c .before .before .before .before .before .before .before .before .before .before .before .loop .inv .3))
+lay-loop-again-2 t c =
+    let branch = c .before .before .before .before .before .before .before in
+    let word = branch .before in
+    let test = word .before in
+    let range = test .before in
+    let turn = range .before in
+    let a = turn .before .before .before .before .args in
+    let h = turn .loop in (
+      lay-loop _ (h .left) (a .src .now) (a .from) (h .code) (h .out) (h .row) (h .loops) (h .depth) (h .inv .0) _
+          (range .in-range .ensures) (test .if1 .left) _ (word .peek .ensures) (branch .match .keys4) _ _ (c .before .before .before .before .put-loop .ensures .0) (c .before .before .before .before .put-loop .ensures .1),
+      search needs,
+      search needs,
+      omega (arith, turn .loop .inv .3),
+    )
 
 lay-same-length-7 : (t : ℕ) → lay-lts.Need-same-length-7 (lay-calls t) (lay-at t) lay.Post lay-Inv-loop lay-μ-loop
 lay-same-length-7 t c = search needs
@@ -167,9 +192,16 @@ lay-same-length-8 : (t : ℕ) → lay-lts.Need-same-length-8 (lay-calls t) (lay-
 lay-same-length-8 t c = search needs
 
 lay-returns-4 : (t : ℕ) → lay-lts.Need-returns-4 (lay-calls t) (lay-at t) lay.Post lay-Inv-loop lay-μ-loop
-lay-returns-4 t c = let a = c .before .before .before .before .before .before .before .before .args in
-    let h = c .before .before .before .before .loop in
-    lay-nothing _ (h .left) (a .src .now) (a .from) (h .code) (h .out) (h .row) (h .loops) (h .depth) (h .inv .0) _ (c .before .before .before .in-range .ensures) (c .before .before .if1 .left) _ (c .before .peek .ensures) (c .match .keys5)
+lay-returns-4 t c =
+    let branch = c in
+    let word = branch .before in
+    let test = word .before in
+    let range = test .before in
+    let turn = range .before in
+    let a = turn .before .before .before .before .args in
+    let h = turn .loop in
+    lay-nothing _ (h .left) (a .src .now) (a .from) (h .code) (h .out) (h .row) (h .loops) (h .depth) (h .inv .0) _
+    (range .in-range .ensures) (test .if1 .left) _ (word .peek .ensures) (branch .match .keys5)
 
 lay-put-action-requires : (t : ℕ) → lay-lts.Need-put-action-requires (lay-calls t) (lay-at t) lay.Post lay-Inv-loop lay-μ-loop
 lay-put-action-requires t c κs = omega (arith, lay-in t (c .before .before .before))
@@ -184,9 +216,21 @@ lay-loop-less-3 : (t : ℕ) → lay-lts.Need-loop-less-3 (lay-calls t) (lay-at t
 lay-loop-less-3 t c = omega (arith, lay-in t (c .before .before .before .before .before .before))
 
 lay-loop-again-3 : (t : ℕ) → lay-lts.Need-loop-again-3 (lay-calls t) (lay-at t) lay.Post lay-Inv-loop lay-μ-loop
-lay-loop-again-3 t c = let a = c .before .before .before .before .before .before .before .before .before .before .before .before .args in
-    let h = c .before .before .before .before .before .before .before .before .loop in
-    (lay-action _ (h .left) (a .src .now) (a .from) (h .code) (h .out) (h .row) (h .loops) (h .depth) (h .inv .0) _ (c .before .before .before .before .before .before .before .in-range .ensures) (c .before .before .before .before .before .before .if1 .left) _ (c .before .before .before .before .before .peek .ensures) (c .before .before .before .before .match .rest .0 .0 .0 .0 .1) (c .before .before .before .before .match .rest .0 .0 .0 .1) (c .before .before .before .before .match .rest .0 .0 .1) (c .before .before .before .before .match .rest .0 .1) (c .before .before .before .before .match .rest .1) _ (c .before .before .put-action .ensures), search needs, search needs, omega (arith, c .before .before .before .before .before .before .before .before .loop .inv .3))
+lay-loop-again-3 t c =
+    let branch = c .before .before .before .before in
+    let word = branch .before in
+    let test = word .before in
+    let range = test .before in
+    let turn = range .before in
+    let a = turn .before .before .before .before .args in
+    let h = turn .loop in (
+      lay-action _ (h .left) (a .src .now) (a .from) (h .code) (h .out) (h .row) (h .loops) (h .depth) (h .inv .0) _
+          (range .in-range .ensures) (test .if1 .left) _ (word .peek .ensures)
+          (branch .match .rest .0 .0 .0 .0 .1) (branch .match .rest .0 .0 .0 .1) (branch .match .rest .0 .0 .1) (branch .match .rest .0 .1) (branch .match .rest .1) _ (c .before .before .put-action .ensures),
+      search needs,
+      search needs,
+      omega (arith, turn .loop .inv .3),
+    )
 
 pub +lay-spec : {M : Type 1} → statement M
 +lay-spec = close μ-lay λ t. lay-lts.spec (lay-calls t)
