@@ -19,8 +19,7 @@ pub const ALL: [Shape; 3] = [Shape::Line, Shape::Wide, Shape::Loops];
 pub const ROWS: [usize; 4] = [16, 64, 128, 256];
 pub const ROLES: [usize; 2] = [2, 8];
 
-/// How many variants of a table are opened in turn: of one table alone a processor learns every jump by heart, the better the smaller
-/// it is.
+/// How many variants of a table are opened in turn, so that no single table is opened over and over.
 pub const VARIANTS: usize = 16;
 
 /// Labels are 0 to 63, so a choice has at most so many arms.
