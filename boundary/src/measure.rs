@@ -19,14 +19,15 @@ pub struct Times {
     pub second: f64,
 }
 
-/// Prints a table of all cases, a line as soon as it is known.
+/// Prints a table of all cases, the lines of a deed and a number of roles as soon as they are known.
 pub fn run() -> Result<(), String> {
     println!("| case | rows | roles | ours ns per call | second ns per call | ratio |");
     println!("|---|---|---|---|---|---|");
     for deed in DEEDS {
-        for rows in ROWS {
-            for roles in ROLES {
-                let times = times(&Bout::new(deed, rows, roles)?)?;
+        for roles in ROLES {
+            let bouts = ROWS.map(|rows| Bout::new(deed, rows, roles));
+            let bouts = bouts.into_iter().collect::<Result<Vec<_>, _>>()?;
+            for (rows, times) in ROWS.into_iter().zip(times(&bouts)?) {
                 println!("{}", line(deed, rows, roles, &times));
             }
         }
@@ -43,19 +44,26 @@ fn line(deed: Deed, rows: usize, roles: usize, times: &Times) -> String {
     format!("| {name} | {rows} | {roles} | {:.0} | {:.0} | {ratio:.2} |", times.ours, times.second)
 }
 
-/// The batches of the two sides take turns, so that a change of the machine's speed meets both.
-fn times(bout: &Bout) -> Result<Times, String> {
+/// The batches of both sides and of all sizes take turns, so that a change of the machine's speed meets both sides and every size.
+fn times(bouts: &[Bout]) -> Result<Vec<Times>, String> {
+    let calls = bouts.iter().map(calls_of_both).collect::<Result<Vec<_>, _>>()?;
+    let mut all: Vec<_> =
+        bouts.iter().map(|_| Times { ours: f64::INFINITY, second: f64::INFINITY }).collect();
+    for _ in 0..BATCHES {
+        for ((bout, calls), times) in bouts.iter().zip(&calls).zip(&mut all) {
+            times.ours = times.ours.min(per_call(bout, Who::Ours, calls[0]));
+            times.second = times.second.min(per_call(bout, Who::Second, calls[1]));
+        }
+    }
+    Ok(all)
+}
+
+fn calls_of_both(bout: &Bout) -> Result<[u64; 2], String> {
     let (ours, second) = (bout.run(Who::Ours, 1), bout.run(Who::Second, 1));
     if ours != second {
         return Err(format!("the two sides answer differently: {ours}, {second}"));
     }
-    let calls = [calls_of_a_batch(bout, Who::Ours), calls_of_a_batch(bout, Who::Second)];
-    let (mut ours, mut second) = (Vec::new(), Vec::new());
-    for _ in 0..BATCHES {
-        ours.push(per_call(bout, Who::Ours, calls[0]));
-        second.push(per_call(bout, Who::Second, calls[1]));
-    }
-    Ok(Times { ours: fastest(&ours), second: fastest(&second) })
+    Ok([calls_of_a_batch(bout, Who::Ours), calls_of_a_batch(bout, Who::Second)])
 }
 
 fn calls_of_a_batch(bout: &Bout, who: Who) -> u64 {
@@ -78,8 +86,4 @@ fn time(bout: &Bout, who: Who, calls: u64) -> Duration {
 
 fn per_call(bout: &Bout, who: Who, calls: u64) -> f64 {
     time(bout, who, calls).as_secs_f64() * 1e9 / calls as f64
-}
-
-fn fastest(times: &[f64]) -> f64 {
-    times.iter().copied().fold(f64::INFINITY, f64::min)
 }
