@@ -2,4 +2,4 @@ pub mod Join
 pub mod Rows
 pub mod Steps
 pub mod Tables
-pub mod Ways
+pub mod Walks

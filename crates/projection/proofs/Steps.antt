@@ -1,6 +1,6 @@
 -- The steps of the projection, one lemma for each way that a call returns. Assumes nothing.
 use Prim.Native.Nat.{ℕ, zero, suc, _+_, _*_, _<_, _≤_}
-use mathlib.Core.Bool.{Bool, true, false, not, cond, _&&_, _||_, true≢false}
+use mathlib.Core.Bool.{Bool, true, false, cond, _&&_, _||_, true≢false}
 use mathlib.Core.List.{List, [], _∷_, _++_, append-assoc}
 use mathlib.Core.Option.{Option, none, some, bind}
 use mathlib.Core.Path.{_≡_, refl, sym, _∙_, ap, subst}
@@ -8,13 +8,11 @@ use native.Mathlib.Omega.{arith}
 use lib.Dec.{leb, eqb}
 use lib.ListN.{length, getD, set, length-append}
 use lib.Seq.{set-at, append-snoc}
-use borrow.Author.Tests.{ne-eqb, eqb-true, not-true}
-use Rattle.words.proofs.Below.{and-both}
+use borrow.Author.Tests.{ne-eqb}
 use Rattle.words.specs.Rows.{word}
 use Rattle.table.specs.Tree.{Global, end, exchange, flight, loop, back, Arms, nil, arm}
-use Rattle.table.specs.Kept.{Good, g-exchange, g-loop, GoodArms, g-nil, g-arm, rowsIn, rowsInArms}
-use Rattle.parts.specs.Part.{Part, p-loop, PartArms, p-nil, p-arm, rising}
-use Rattle.parts.specs.Absent.{takesPart, leaves}
+use Rattle.table.specs.Kept.{Good, g-exchange, GoodArms, g-nil, g-arm, rowsIn, rowsInArms}
+use Rattle.parts.specs.Part.{Part, PartArms, p-nil, p-arm, rising}
 use Rattle.parts.specs.Merge.{merge}
 use Rattle.parts.specs.Projection.{part, partArms, partExchange, mergeFrom, mergeAll}
 use Rattle.parts.specs.Layout.{size}
@@ -27,7 +25,7 @@ use Rattle.parts.proofs.Sizes.{words-twice, merge-size}
 use Rattle.parts.proofs.Laws.{part-size, part-rising}
 use Rattle.chains.specs.mirror.Orders.{Listed, listed-none, listed-arm}
 use Rattle.merge.specs.declared.Joined.{Joined}
-use Rattle.projection.specs.mirror.Projects.{SMALL, Small, s-exchange, s-loop, SmallArms, s-nil, s-arm, Plain, plain-nil, plain-arm, Stack, Space, Pushed, Outcome, fails, puts, PlannedBy, Known, Leads, ArmRead, Projects, Owns, Behind, behind-none, behind-some, Folds}
+use Rattle.projection.specs.mirror.Projects.{SMALL, Small, s-exchange, SmallArms, s-nil, s-arm, Plain, plain-nil, plain-arm, Stack, Space, Pushed, Outcome, fails, puts, PlannedBy, Known, ArmRead, Chooses, Projects, Owns, Behind, behind-none, behind-some, Folds}
 use Rattle.projection.specs.declared.Projected.{Projected}
 use Rattle.projection.specs.declared.Arm.{Arm}
 use Rattle.projection.proofs.Join.{Joins}
@@ -68,7 +66,7 @@ outcome-also e (fails h) = fails (rw (e, h))
 outcome-also e (puts h k) = puts (rw (e, h)) k
 
 -- the second call does its work if the first did
-pub outcome-then : {X Y : Type 0} {f : X → List ℕ} {g : Y → List ℕ} {o : Option X} (next : X → Option Y) {s t work work′ : List ℕ} {a : Projected} (b : Projected)
+outcome-then : {X Y : Type 0} {f : X → List ℕ} {g : Y → List ℕ} {o : Option X} (next : X → Option Y) {s t work work′ : List ℕ} {a : Projected} (b : Projected)
     → Outcome f s work a o → ((x : X) → o ≡ some x → Stack work (a .at) (s ++ f x) → Outcome g t work′ b (next x))
     → Outcome g t work′ (also (a .ok) b) (bind o next)
 unfolding bind
@@ -79,7 +77,7 @@ outcome-is : {X : Type 0} {f : X → List ℕ} {o p : Option X} {s work : List �
 outcome-is {f} {s} {work} {a} e h = subst (λ (p : Option _). Outcome f s work a p) (sym e) h
 
 -- what is put behind a first word
-pub outcome-under : {X Y : Type 0} {f : X → List ℕ} {g : Y → List ℕ} {o : Option X} (next : X → Option Y) (make : X → Y) {w : ℕ}
+outcome-under : {X Y : Type 0} {f : X → List ℕ} {g : Y → List ℕ} {o : Option X} (next : X → Option Y) (make : X → Y) {w : ℕ}
     {s work : List ℕ} {a : Projected} → ((x : X) → next x ≡ some (make x)) → ((x : X) → g (make x) ≡ w ∷ f x)
     → Outcome f (s ++ w ∷ []) work a o → Outcome g s work a (bind o next)
 unfolding bind
@@ -97,20 +95,6 @@ rows-positive (flight p q l v G) = omega arith
 rows-positive (loop G) = omega arith
 rows-positive (back k) = omega arith
 
--- what is left behind of a tree whose plan is k
-pub record Chooses (k r : ℕ) (t kept order : List ℕ) (left w next : ℕ) (work : List ℕ) (at : ℕ) (spare work′ : List ℕ) (res : Projected) : Type 0 where
-  pub gives : (G : Global ℕ) (s : List ℕ) → Known r t kept order → PlannedBy k r t order G w next → rowsIn G ≤ left → Good G → Small G → Stack work at s
-      → Space (rowsIn G * 2) at work spare → Outcome codes s work′ res (part r G)
-
--- a plan for a tree that has the same part will do
-pub chosen : {j k r : ℕ} {t kept order : List ℕ} {i left w next less : ℕ} {work work′ spare : List ℕ} {at : ℕ} {res : Projected} → Leads r t kept order left i j w next less → j ≡ k
-    → Chooses k r t kept order less w next work at spare work′ res → Projects r t kept order left i work at spare work′ res
-chosen {r = r} {t = t} {order = order} {w = w} {next} leads e choose = record {
-  gives = λ G s o h f g m k sp.
-      let (B, by, same, fits, within, good, small) = leads .gives G o h f g m in
-      outcome-is same (choose .gives B s o (subst (λ (x : ℕ). PlannedBy x r t order B w next) e by) fits good small k (space-within sp refl refl (omega arith) (omega arith)));
-}
-
 -- a part of one word
 pub leaf-step : {r : ℕ} {t kept order : List ℕ} {work work′ : List ℕ} (spare : List ℕ) {at w next left e : ℕ}
     → Pushed work at w work′ e → Chooses 0 r t kept order left w next work at spare work′ (record { ok = true; at = e })
@@ -125,28 +109,6 @@ pub no-links : {k r : ℕ} {t kept order : List ℕ} {work : List ℕ} (spare : 
     → Chooses k r t kept order left w next work at spare work res
 no-links spare e = record { gives = λ G s o by f g m k sp. absurd (omega (arith, rows-positive G)) }
 
--- a Loop around a body's part
-body-step : {r : ℕ} {t kept order : List ℕ} {less i : ℕ} {B : Global ℕ} {work work′ work″ spare : List ℕ} {at e : ℕ} {a : Projected}
-    → (takesPart r B || leaves 1 B) ≡ true → Pushed work at (code 3 0) work′ e → length work′ ≡ length work → Projects r t kept order less i work′ e spare work″ a
-    → Known r t kept order → Grows t i B → (s : List ℕ) → rowsIn (loop B) ≤ suc less → Good (loop B) → Small (loop B) → Stack work at s
-    → Space (rowsIn (loop B) * 2) at work spare → Outcome codes s work″ a (part r (loop B))
-unfolding part rowsIn codes
-body-step {B = B} takes push len rec o h s f (g-loop g) (s-loop m) k sp =
-    let k′ = push .gives s k (omega (arith, sp .fits)) in
-    rw takes
-    (outcome-under (λ P. some (p-loop P)) p-loop (λ P. refl) (λ P. refl)
-    (rec .gives B (s ++ 3 ∷ []) o h (omega arith) g m k′ (space-within sp len refl (omega (arith, k .height, k′ .height, length-append s (3 ∷ []))) (omega arith))))
-
-pub loop-step : {r : ℕ} {t kept order : List ℕ} {left less : ℕ} {work work′ work″ spare : List ℕ} {at w next e : ℕ} {a : Projected} → left ≡ suc less
-    → Pushed work at w work′ e → length work′ ≡ length work → Projects r t kept order less next work′ e spare work″ a
-    → Chooses 1 r t kept order left w next work at spare work″ a
-loop-step {r} {less = less} {work = work} {work′} {work″} {spare} {at} {e = e} {a} el push len rec = record {
-  gives = λ G s o by f g m.
-      let (B, is, grows, takes, word-is) = by in
-      subst (λ (X : Global ℕ). rowsIn X ≤ suc less → Good X → Small X → Stack work at s → Space (rowsIn X * 2) at work spare → Outcome codes s work″ a (part r X)) (sym is)
-      (body-step takes (subst (λ (x : ℕ). Pushed work at x work′ e) word-is push) len rec o grows s) (rw el at f) g m;
-}
-
 -- ---- the arms of an action of the role's own, in rising order
 
 place-plain : {l : ℕ} {G : Global ℕ} {cs : Arms ℕ} → l < SMALL → Good G → Small G → Plain cs → Plain (place l G cs)
@@ -158,7 +120,7 @@ place-plain {l} {G} h g m (plain-arm {l = k} {G = H} {cs = cs} i f n ps) = go (l
     go true q = plain-arm h g m (plain-arm i f n ps)
     go false q = plain-arm i f n q
 
-ordered-plain : {cs : Arms ℕ} → GoodArms cs → SmallArms cs → Plain (ordered cs)
+pub ordered-plain : {cs : Arms ℕ} → GoodArms cs → SmallArms cs → Plain (ordered cs)
 unfolding ordered
 ordered-plain g-nil s-nil = plain-nil
 ordered-plain (g-arm d g gs) (s-arm x m ms) = place-plain x g m (ordered-plain gs ms)
@@ -247,22 +209,6 @@ own-step {r} {t} {kept} {order} {i} {left} {less} {n} {work₀ = work₀} {work�
         own-arm (subst (λ (w : ℕ). Pushed work₀ at w work₁ e) (read .word-is (rw b q) ∙ ap (code 2) b) push) project own len₁ len₂ spare₁ o (rw (read .cont-is ∙ d) g) (rw en x) s
         (rw el at f) (plain-arm q y m ps) k sp
 
-and-true : (b : Bool) → (b && true) ≡ b
-and-true true = refl
-and-true false = refl
-
--- an action of one arm, whose mark is put right behind its part
-pub sole-step : {r : ℕ} {t kept order : List ℕ} {left less fewer : ℕ} {work work₁ work₂ work₃ work₄ spare : List ℕ} {at w next e₁ e₂ e₄ : ℕ} (c : Arm) {one : Projected}
-    → left ≡ suc less → less ≡ suc fewer → (not (eqb next 0 || eqb less 0) && eqb (getD order next 0) 0) ≡ true → ArmRead t next c
-    → Pushed work at w work₁ e₁ → Pushed work₁ e₁ (c .word) work₂ e₂ → Projects r t kept order fewer (c .cont) work₂ e₂ spare work₃ one
-    → Pushed work₃ (one .at) (code 1 0) work₄ e₄ → length work₁ ≡ length work → length work₂ ≡ length work₁ → length work₃ ≡ length work₁
-    → Chooses 2 r t kept order left w next work at spare work₄ (record { ok = one .ok; at = e₄ })
-sole-step {r} {t} {kept} {order} {less = less} {work₁ = work₁} {work₄ = work₄} {spare} {next = next} {e₁} {e₄ = e₄} c {one} el ef is read push₁ push₂ project mark len₁ len₂ len₃ =
-    let (on, last) = and-both (not (eqb next 0 || eqb less 0)) (eqb (getD order next 0) 0) is in
-    action-step el push₁ len₁
-    (subst (λ (b : Bool). Owns r t kept order less next work₁ e₁ spare work₄ (record { ok = b; at = e₄ })) (and-true (one .ok))
-    (own-step c (not-true (eqb next 0 || eqb less 0) on) ef read (sym (eqb-true (getD order next 0) 0 last)) push₂ project (own-end {i = 0} spare refl mark) len₂ len₃ refl))
-
 -- ---- an exchange of others
 
 -- the first arm of a chain, and the arms behind it
@@ -284,7 +230,7 @@ bind-is none e = refl
 bind-is (some x) e = e x
 
 -- a plan with no case of its own is one for an exchange of others
-others : (r : ℕ) (t order : List ℕ) (G : Global ℕ) (w next k : ℕ) → 2 < k → PlannedBy k r t order G w next
+pub others : (r : ℕ) (t order : List ℕ) (G : Global ℕ) (w next k : ℕ) → 2 < k → PlannedBy k r t order G w next
     → (p : ℕ) × (q : ℕ) × (cs : Arms ℕ) × (G ≡ exchange p q cs) × Chain t next cs × ((ps : PartArms) → partExchange r p q ps ≡ mergeAll ps)
 others r t order G w next zero l plan = absurd (omega arith)
 others r t order G w next (suc zero) l plan = absurd (omega arith)
@@ -402,7 +348,3 @@ some-left i zero e = absurd (true≢false (last (eqb i 0) e))
     last true e = e
     last false e = e
 some-left i (suc n) e = omega arith
-
--- links are left for the only arm of an action
-pub sole-left : (i left : ℕ) (b : Bool) → (not (eqb i 0 || eqb left 0) && b) ≡ true → 0 < left
-sole-left i left b e = some-left i left (not-true (eqb i 0 || eqb left 0) (and-both (not (eqb i 0 || eqb left 0)) b e .0))

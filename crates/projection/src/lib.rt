@@ -3,11 +3,10 @@
 // role needs of the table is found once: `kept`, the roles that stay in each Loop, and `order`, the arms of each chain in rising label order.
 use table::Table;
 ghost use mathlib.Core.Path.{_≡_};
-ghost use mathlib.Core.Bool.{not, _&&_, _||_};
+ghost use mathlib.Core.Logic.{_≢_};
 ghost use mathlib.Core.List.{List};
 ghost use Prim.Native.Nat.{ℕ, _+_, _*_, _<_, _≤_};
-ghost use lib.Dec.{eqb};
-ghost use lib.ListN.{length, getD};
+ghost use lib.ListN.{length};
 ghost use Rattle.words.specs.Rows.{rowsOf};
 ghost use Rattle.table.specs.Limits.{base};
 ghost use Rattle.table.specs.Check.{accepted, checkOf};
@@ -15,7 +14,7 @@ ghost use Rattle.table.specs.Tree.{Global, loop, Arms, exchange};
 ghost use Rattle.parts.specs.mirror.Grows.{Grows, Chain, ordered};
 ghost use Rattle.reach.specs.mirror.Keeps.{Keeps};
 ghost use Rattle.chains.specs.mirror.Orders.{Listed};
-ghost use Rattle.projection.specs.mirror.Projects.{SMALL, FAR, Small, Pushed, PlannedBy, Planned, passedOf, Leads, ArmRead, Projects, Owns, Folds, Prepared, Parted};
+ghost use Rattle.projection.specs.mirror.Projects.{SMALL, FAR, Small, Pushed, PlannedBy, Planned, leadsOn, Enters, Walks, Closed, ArmRead, Chooses, Projects, Owns, Folds, Prepared, Parted};
 
 // Whether there is a part, and the height of the stack with it.
 pub struct Projected {
@@ -31,11 +30,20 @@ pub struct Plan {
     pub next: usize,
 }
 
-// A plan, and how many links are left to follow for it.
+// The row that a row leads on to, the height of the stack before its part, and how many marks are put behind its part.
+pub struct Step {
+    pub row: usize,
+    pub at: usize,
+    pub marks: usize,
+}
+
+// A plan, the height of the stack before its part, how many marks are put behind it, and how many links are left to follow.
 pub struct Way {
     pub case: u8,
     pub word: u16,
     pub next: usize,
+    pub at: usize,
+    pub marks: usize,
     pub left: usize,
 }
 
@@ -177,53 +185,164 @@ fn arm_at(table: &[u16], row: usize) -> Arm
     }
 }
 
-// The continuation of the only arm of an exchange of others; 0 for any other plan.
-fn passed(table: &[u16], case: u8, next: usize) -> usize
-    ensures { λ r. ⌜ r ≡ passedOf (now (table .entry)) case next ⌝ }
+// Whether a plan is a Loop, or an exchange with one arm: its part is that of one other row, with words before and marks behind.
+fn leads_on(table: &[u16], order: &[u16], case: u8, next: usize) -> bool
+    ensures { λ r. ⌜ r ≡ leadsOn (now (table .entry)) (now (order .entry)) case next ⌝ }
 {
-    if case != 3 {
-        return 0;
+    match case {
+        0 => false,
+        1 => true,
+        2 => (next != 0) & (words::peek(order, next) == 0),
+        _ => words::word(table, next, 3) == 0,
     }
-    if words::word(table, next, 3) != 0 {
-        return 0;
-    }
-    words::wide(words::word(table, next, 2))
 }
 
-// The plan for a role at the first row, from this one on, that asks something of it: an exchange of others with one arm asks nothing, and its
-// part is that of the arm. Such rows are passed in a loop, so that a long talk of others does not stand on the call stack.
-fn ahead(table: &[u16], kept: &[u16], order: &[u16], row: usize, role: usize, left: usize) -> Way
-    ensures { λ r. ⌜ Leads role (now (table .entry)) (now (kept .entry)) (now (order .entry)) left row (r .case) (r .word) (r .next) (r .left) ⌝ }
+// Puts the words before that other row's part on the stack.
+fn enter(table: &[u16], plan: Plan, work: &mut [u16], at: usize) -> Step
+    ensures { λ r. ⌜ Enters (now (table .entry)) (plan .case) (plan .word) (plan .next) (now (work .entry)) at (now (work .exit)) r ⌝ }
+{
+    let case = plan.case;
+    match case {
+        1 => Step {
+            row: plan.next,
+            at: push(work, at, plan.word),
+            marks: 0,
+        },
+        2 => {
+            let arm = arm_at(table, plan.next);
+            let arms = push(work, at, plan.word);
+            Step {
+                row: arm.cont,
+                at: push(work, arms, arm.word),
+                marks: 1,
+            }
+        }
+        _ => Step {
+            row: words::wide(words::word(table, plan.next, 2)),
+            at: at,
+            marks: 0,
+        },
+    }
+}
+
+// Goes from a row to the first one, for a role, that is a leaf or has several arms. A loop, so that no long talk stands on the call stack.
+fn walk(
+    table: &[u16],
+    kept: &[u16],
+    order: &[u16],
+    row: usize,
+    role: usize,
+    work: &mut [u16],
+    at: usize,
+    left: usize,
+) -> Way
+    ensures { λ r. ⌜ Walks role (now (table .entry)) (now (kept .entry)) (now (order .entry)) left row (now (work .entry)) at (now (work .exit)) r ⌝ }
 {
     let mut here = row;
+    let mut top = at;
+    let mut marks = 0;
     let mut more = left;
     while 0 < more {
-        let step = plan_at(table, kept, order, here, role);
-        let on = passed(table, step.case, step.next);
-        if on == 0 {
+        let plan = plan_at(table, kept, order, here, role);
+        if !leads_on(table, order, plan.case, plan.next) {
             return Way {
-                case: step.case,
-                word: step.word,
-                next: step.next,
+                case: plan.case,
+                word: plan.word,
+                next: plan.next,
+                at: top,
+                marks: marks,
                 left: more,
             };
         }
-        here = on;
+        let step = enter(table, plan, work, top);
+        here = step.row;
+        top = step.at;
+        marks += step.marks;
         more -= 1;
     }
     Way {
         case: 0,
         word: END,
         next: 0,
+        at: top,
+        marks: marks,
         left: 0,
     }
 }
 
-// The arm is the only one of its action, and links are left for it.
-fn sole(order: &[u16], arm: usize, left: usize) -> bool
-    ensures { λ r. ⌜ r ≡ (not (eqb arm 0 || eqb left 0) && eqb (getD (now (order .entry)) arm 0) 0) ⌝ }
+// Puts so many marks on the stack.
+fn close(work: &mut [u16], at: usize, marks: usize) -> usize
+    ensures { λ r. ⌜ Closed marks (now (work .entry)) at (now (work .exit)) r ⌝ }
 {
-    !((arm == 0) | (left == 0)) & (words::peek(order, arm) == 0)
+    let mut top = at;
+    let mut more = marks;
+    while 0 < more {
+        top = push(work, top, MARK);
+        more -= 1;
+    }
+    top
+}
+
+// Puts the part of a plan that leads on to no single row on the stack.
+fn choose(
+    table: &[u16],
+    kept: &[u16],
+    order: &[u16],
+    way: Way,
+    role: usize,
+    work: &mut [u16],
+    spare: &mut [u16],
+) -> Projected
+    ensures { λ r. ⌜ (way .case ≢ 1 → Chooses (way .case) role (now (table .entry)) (now (kept .entry)) (now (order .entry)) (way .left) (way .word) (way .next) (now (work .entry)) (way .at) (now (spare .entry)) (now (work .exit)) r) ⌝ }
+{
+    if way.left == 0 {
+        return Projected {
+            ok: false,
+            at: way.at,
+        };
+    }
+    let less = way.left - 1;
+    let case = way.case;
+    match case {
+        0 => Projected {
+            ok: true,
+            at: push(work, way.at, way.word),
+        },
+        2 => {
+            let arms = push(work, way.at, way.word);
+            own(table, kept, order, way.next, role, work, arms, spare, less)
+        }
+        _ => {
+            let arm = arm_at(table, way.next);
+            let first = project(
+                table,
+                kept,
+                order,
+                arm.cont,
+                role,
+                work,
+                way.at,
+                spare,
+                less,
+            );
+            let all = fold(
+                table,
+                kept,
+                order,
+                arm.next,
+                role,
+                work,
+                way.at,
+                first.at,
+                spare,
+                less,
+            );
+            Projected {
+                ok: first.ok & all.ok,
+                at: all.at,
+            }
+        }
+    }
 }
 
 // Puts the part of a role in the tree of a row on the stack; at most `left` links are followed.
@@ -240,66 +359,12 @@ fn project(
 ) -> Projected
     ensures { λ r. ⌜ Projects role (now (table .entry)) (now (kept .entry)) (now (order .entry)) left row (now (work .entry)) at (now (spare .entry)) (now (work .exit)) r ⌝ }
 {
-    let way = ahead(table, kept, order, row, role, left);
-    if way.left == 0 {
-        return Projected { ok: false, at: at };
-    }
-    let less = way.left - 1;
-    let case = way.case;
-    match case {
-        0 => Projected {
-            ok: true,
-            at: push(work, at, way.word),
-        },
-        1 => {
-            let body = push(work, at, way.word);
-            project(table, kept, order, way.next, role, work, body, spare, less)
-        }
-        2 => {
-            let arms = push(work, at, way.word);
-            // With one arm, its part and the mark behind it: no frame of `own` stands between the calls of a long talk.
-            if sole(order, way.next, less) {
-                let arm = arm_at(table, way.next);
-                let cont = push(work, arms, arm.word);
-                let part = project(
-                    table,
-                    kept,
-                    order,
-                    arm.cont,
-                    role,
-                    work,
-                    cont,
-                    spare,
-                    less - 1,
-                );
-                let end = push(work, part.at, MARK);
-                return Projected {
-                    ok: part.ok,
-                    at: end,
-                };
-            }
-            own(table, kept, order, way.next, role, work, arms, spare, less)
-        }
-        _ => {
-            let arm = arm_at(table, way.next);
-            let first = project(table, kept, order, arm.cont, role, work, at, spare, less);
-            let all = fold(
-                table,
-                kept,
-                order,
-                arm.next,
-                role,
-                work,
-                at,
-                first.at,
-                spare,
-                less,
-            );
-            Projected {
-                ok: first.ok & all.ok,
-                at: all.at,
-            }
-        }
+    let way = walk(table, kept, order, row, role, work, at, left);
+    let part = choose(table, kept, order, way, role, work, spare);
+    let end = close(work, part.at, way.marks);
+    Projected {
+        ok: part.ok,
+        at: end,
     }
 }
 

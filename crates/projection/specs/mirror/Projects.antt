@@ -1,12 +1,13 @@
 -- What is promised of the projection's functions: each puts the words of a part, or of arms, on a stack, or says that there is no part.
 -- r: the role. work, work′: the stack before and after. at, e: its height. Assumes nothing.
 use Prim.Native.Nat.{ℕ, zero, suc, _+_, _*_, _<_, _≤_}
-use mathlib.Core.Bool.{true, false, not, cond, _||_}
+use mathlib.Core.Bool.{Bool, true, false, not, _&&_, _||_}
 use mathlib.Core.List.{List, [], _∷_, _++_}
 use mathlib.Core.Option.{Option, none, some, bind}
+use mathlib.Core.Logic.{_≢_}
 use mathlib.Core.Path.{_≡_}
 use lib.Dec.{eqb}
-use lib.ListN.{length}
+use lib.ListN.{length, getD, replicate}
 use Rattle.words.specs.Below.{lowest}
 use Rattle.words.specs.Rows.{word, rowsOf}
 use Rattle.table.specs.Limits.{base}
@@ -25,6 +26,8 @@ use Rattle.reach.specs.mirror.Keeps.{Keeps}
 use Rattle.chains.specs.mirror.Orders.{Listed, Orders}
 use Rattle.projection.specs.declared.Projected.{Projected}
 use Rattle.projection.specs.declared.Arm.{Arm}
+use Rattle.projection.specs.declared.Step.{Step}
+use Rattle.projection.specs.declared.Way.{Way}
 
 -- arguments of code words are below this
 abbrev pub SMALL : ℕ
@@ -100,23 +103,63 @@ pub record Known (r : ℕ) (t kept order : List ℕ) : Type 0 where
 pub record Planned (k r : ℕ) (t kept order : List ℕ) (i w next : ℕ) : Type 0 where
   pub says : (G : Global ℕ) → Known r t kept order → Grows t i G → Small G → PlannedBy k r t order G w next
 
--- where the plan k with its arm at row i leads on: to the continuation of the only arm of an exchange of others, or nowhere
-abbrev pub passedOf : List ℕ → ℕ → ℕ → ℕ
-passedOf t k i = cond (eqb k 3) (cond (eqb (word t i 3) 0) (word t i 2) 0) 0
-
--- the plan k for a tree below row i that has the same part, and the links that are left for it
-pub record Leads (r : ℕ) (t kept order : List ℕ) (left i k w next left′ : ℕ) : Type 0 where
-  pub within : left′ ≤ left
-  pub gives : (G : Global ℕ) → Known r t kept order → Grows t i G → rowsIn G ≤ left → Good G → Small G
-      → (B : Global ℕ) × PlannedBy k r t order B w next × (part r G ≡ part r B) × (rowsIn B ≤ left′) × (rowsIn B ≤ rowsIn G) × Good B × Small B
-
 -- an arm as the code read it
 pub record ArmRead (t : List ℕ) (i : ℕ) (a : Arm) : Type 0 where
   pub word-is : word t i 1 < SMALL → a .word ≡ code 2 (word t i 1)
   pub cont-is : a .cont ≡ word t i 2
   pub next-is : a .next ≡ word t i 3
 
+-- ---- rows that lead on to one other row
+
+-- the plan k, with its arm at row i, leads on: a Loop, the only arm of an action of the role's own, the only arm of an exchange of others
+abbrev pub leadsOn : List ℕ → List ℕ → ℕ → ℕ → Bool
+leadsOn t order zero i = false
+leadsOn t order (suc zero) i = true
+leadsOn t order (suc (suc zero)) i = not (eqb i 0) && eqb (getD order i 0) 0
+leadsOn t order (suc (suc (suc k))) i = eqb (word t i 3) 0
+
+-- so many marks, each behind the last arm of an action
+abbrev pub marks : ℕ → List ℕ
+marks n = replicate n (code 1 0)
+
+-- the words of the second part are ws, the words of the first one, and n marks; or there is neither
+pub data Wraps (ws : List ℕ) (n : ℕ) : Option Part → Option Part → Type 0 where
+  wraps-none : Wraps ws n none none
+  wraps-some : {P Q : Part} → codes Q ≡ ws ++ (codes P ++ marks n) → Wraps ws n (some P) (some Q)
+
+-- the part of G is that of the tree B below it, with words before and marks behind, and the links that are left suffice for B
+pub record Inside (r : ℕ) (G : Global ℕ) (left : ℕ) (ws : List ℕ) (n : ℕ) (B : Global ℕ) : Type 0 where
+  pub good : Good B
+  pub small : Small B
+  pub wraps : Wraps ws n (part r B) (part r G)
+  pub rows : rowsIn B ≤ left
+  pub fits : length ws + (rowsIn B * 2 + n) ≤ rowsIn G * 2
+
+-- the words before the tree of the row that a plan leads on to
+pub record Enters (t : List ℕ) (k w next : ℕ) (work : List ℕ) (at : ℕ) (work′ : List ℕ) (e : Step) : Type 0 where
+  pub few : e .marks ≤ 1
+  pub gives : (r : ℕ) (order : List ℕ) (G : Global ℕ) (left : ℕ) (s : List ℕ) → leadsOn t order k next ≡ true → PlannedBy k r t order G w next
+      → rowsIn G ≤ suc left → Good G → Small G → Stack work at s → at + rowsIn G * 2 ≤ length work
+      → (B : Global ℕ) × (ws : List ℕ) × Grows t (e .row) B × Stack work′ (e .at) (s ++ ws) × Inside r G left ws (e .marks) B
+
+-- the plan of a row below row i that leads on to no single one, and what stands around its part
+pub record Walks (r : ℕ) (t kept order : List ℕ) (left i : ℕ) (work : List ℕ) (at : ℕ) (work′ : List ℕ) (e : Way) : Type 0 where
+  pub no-loop : e .case ≢ 1
+  pub within : e .left ≤ left
+  pub gives : (G : Global ℕ) (s : List ℕ) → Known r t kept order → Grows t i G → rowsIn G ≤ left → Good G → Small G → Stack work at s
+      → at + rowsIn G * 2 ≤ length work
+      → (B : Global ℕ) × (ws : List ℕ) × PlannedBy (e .case) r t order B (e .word) (e .next) × Stack work′ (e .at) (s ++ ws) × Inside r G (e .left) ws (e .marks) B
+
+-- so many marks more
+pub record Closed (n : ℕ) (work : List ℕ) (at : ℕ) (work′ : List ℕ) (e : ℕ) : Type 0 where
+  pub gives : (s : List ℕ) → Stack work at s → at + n ≤ length work → Stack work′ e (s ++ marks n)
+
 -- ---- the calls
+
+-- the tree of the plan k
+pub record Chooses (k r : ℕ) (t kept order : List ℕ) (left w next : ℕ) (work : List ℕ) (at : ℕ) (spare work′ : List ℕ) (res : Projected) : Type 0 where
+  pub gives : (G : Global ℕ) (s : List ℕ) → Known r t kept order → PlannedBy k r t order G w next → rowsIn G ≤ left → Good G → Small G → Stack work at s
+      → Space (rowsIn G * 2) at work spare → Outcome codes s work′ res (part r G)
 
 -- the links that may be followed suffice for a tree of so many rows
 pub record Projects (r : ℕ) (t kept order : List ℕ) (left i : ℕ) (work : List ℕ) (at : ℕ) (spare work′ : List ℕ) (res : Projected) : Type 0 where

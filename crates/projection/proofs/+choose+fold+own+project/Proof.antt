@@ -1,42 +1,53 @@
--- `projection::project`, `own` and `fold` meet their contracts: each way that a call returns is a step of proofs/Steps.antt, and the measure is the
--- number of links left to follow. Assumes nothing.
-use mathlib.Core.Path.{refl, sym, _∙_}
+-- `projection::project`, `choose`, `own` and `fold` meet their contracts: each way that a call returns is a step of proofs/Steps.antt or of
+-- proofs/Walks.antt, and the measure is the number of links left to follow, twice, so that `choose` stands below the call that walked to it. Assumes nothing.
+use mathlib.Core.Path.{_∙_}
 use native.Mathlib.Omega.{arith}
-use lib.Dec.{eqb}
-use lib.ListN.{getD}
 use borrow.Author.Needs.{needs}
 use Rattle.projection.proofs.Join.{joins-is}
-use Rattle.projection.proofs.Steps.{chosen, more-than-two, some-left, sole-left, sole-step, no-links, leaf-step, loop-step, action-step, others-step, own-end, own-step, fold-end, fold-step}
-use Prim.Native.Nat.{ℕ, _-_, _<_}
+use Rattle.projection.proofs.Steps.{more-than-two, some-left, no-links, leaf-step, action-step, others-step, own-end, own-step, fold-end, fold-step}
+use Rattle.projection.proofs.Walks.{project-step}
+use Prim.Native.Nat.{ℕ, suc, _-_, _*_, _<_}
 use borrow.Fn.Kinds.{In}
 use borrow.Fn.PlainCycle.{Measures, is, falls, and}
+use Rattle.projection.proofs.choose.Reads as choose
+use Rattle.projection.proofs.choose.Kinds as choose-kinds
+use Rattle.projection.proofs.+choose+fold+own+project.Lts-choose as choose-lts
 use Rattle.projection.proofs.fold.Reads as fold
 use Rattle.projection.proofs.fold.Kinds as fold-kinds
-use Rattle.projection.proofs.+fold+own+project.Lts-fold as fold-lts
+use Rattle.projection.proofs.+choose+fold+own+project.Lts-fold as fold-lts
 use Rattle.projection.proofs.own.Reads as own
 use Rattle.projection.proofs.own.Kinds as own-kinds
-use Rattle.projection.proofs.+fold+own+project.Lts-own as own-lts
+use Rattle.projection.proofs.+choose+fold+own+project.Lts-own as own-lts
 use Rattle.projection.proofs.project.Reads as project
 use Rattle.projection.proofs.project.Kinds as project-kinds
-use Rattle.projection.proofs.+fold+own+project.Lts-project as project-lts
+use Rattle.projection.proofs.+choose+fold+own+project.Lts-project as project-lts
 use Rattle.merge.proofs.join.Reads as join-reads
 use Rattle.projection.proofs.arm_at.Reads as arm-at-reads
-use Rattle.projection.proofs.ahead.Reads as ahead-reads
+use Rattle.projection.proofs.close.Reads as close-reads
 use Rattle.projection.proofs.push.Reads as push-reads
-use Rattle.projection.proofs.sole.Reads as sole-reads
+use Rattle.projection.proofs.walk.Reads as walk-reads
 use Rattle.words.proofs.peek.Reads as peek-reads
 use Rattle.words.proofs.wide.Reads as wide-reads
-use Rattle.projection.proofs.+fold+own+project.{statement}
-use Rattle.projection.proofs.+fold+own+project.Tie.{close}
+use Rattle.projection.proofs.+choose+fold+own+project.{statement}
+use Rattle.projection.proofs.+choose+fold+own+project.Tie.{close}
+
+abbrev μ-choose : Measures 5 choose-kinds.ps ℕ
+μ-choose κs a = 2 * (a .1 .1 .1 .0 .left)
 
 abbrev μ-fold : Measures 5 fold-kinds.ps ℕ
-μ-fold κs a = a .1 .1 .1 .1 .1 .1 .1 .1 .1 .0
+μ-fold κs a = suc (2 * (a .1 .1 .1 .1 .1 .1 .1 .1 .1 .0))
 
 abbrev μ-own : Measures 5 own-kinds.ps ℕ
-μ-own κs a = a .1 .1 .1 .1 .1 .1 .1 .1 .0
+μ-own κs a = suc (2 * (a .1 .1 .1 .1 .1 .1 .1 .1 .0))
 
 abbrev μ-project : Measures 5 project-kinds.ps ℕ
-μ-project κs a = a .1 .1 .1 .1 .1 .1 .1 .1 .0
+μ-project κs a = suc (2 * (a .1 .1 .1 .1 .1 .1 .1 .1 .0))
+
+abbrev choose-at : ℕ → In 5 choose-kinds.ps
+choose-at t = and 5 choose-kinds.ps (is 5 choose-kinds.ps μ-choose t) choose.Pre
+
+abbrev choose-below : ℕ → In 5 choose-kinds.ps
+choose-below t = and 5 choose-kinds.ps (falls 5 choose-kinds.ps _<_ μ-choose t) choose.Pre
 
 abbrev fold-at : ℕ → In 5 fold-kinds.ps
 fold-at t = and 5 fold-kinds.ps (is 5 fold-kinds.ps μ-fold t) fold.Pre
@@ -55,6 +66,82 @@ project-at t = and 5 project-kinds.ps (is 5 project-kinds.ps μ-project t) proje
 
 abbrev project-below : ℕ → In 5 project-kinds.ps
 project-below t = and 5 project-kinds.ps (falls 5 project-kinds.ps _<_ μ-project t) project.Pre
+
+abbrev choose-calls : ℕ → choose-lts.Claims
+choose-calls t = (
+  push-reads.Asked,
+  push-reads.Learnt,
+  own-below t,
+  own.Post,
+  arm-at-reads.Asked,
+  arm-at-reads.Learnt,
+  project-below t,
+  project.Post,
+  fold-below t,
+  fold.Post,
+)
+
+choose-returns : (t : ℕ) → choose-lts.Need-returns (choose-calls t) (choose-at t) choose.Post
+choose-returns t c = λ h. no-links _ (c .if1 .taken)
+
+choose-sub-less : (t : ℕ) → choose-lts.Need-sub-less (choose-calls t) (choose-at t) choose.Post
+choose-sub-less t c = omega (arith, c .before .if1 .left)
+
+-- a call inside has fewer links left
+choose-falls : (t : ℕ) (c : choose-lts.After-struct-known2 (choose-calls t) (choose-at t) choose.Post) → suc (2 * (c .before .before .before .before .before .before .before .before .args .way .left - 1)) < t
+choose-falls t c = omega (arith, c .before .if1 .left, c .before .before .before .before .before .before .before .before .pre .0)
+
+choose-push-requires : (t : ℕ) → choose-lts.Need-push-requires (choose-calls t) (choose-at t) choose.Post
+choose-push-requires t c κs = search needs
+
+choose-push-requires-2 : (t : ℕ) → choose-lts.Need-push-requires-2 (choose-calls t) (choose-at t) choose.Post
+choose-push-requires-2 t c κs = search needs
+
+choose-own-requires : (t : ℕ) → choose-lts.Need-own-requires (choose-calls t) (choose-at t) choose.Post
+choose-own-requires t c κs = (choose-falls t (c .before .before .before .before .before .before .before), tt)
+
+choose-arm-at-requires : (t : ℕ) → choose-lts.Need-arm-at-requires (choose-calls t) (choose-at t) choose.Post
+choose-arm-at-requires t c κs = search needs
+
+choose-project-requires : (t : ℕ) → choose-lts.Need-project-requires (choose-calls t) (choose-at t) choose.Post
+choose-project-requires t c κs = (choose-falls t (c .before .before .before .before), tt)
+
+choose-fold-requires : (t : ℕ) → choose-lts.Need-fold-requires (choose-calls t) (choose-at t) choose.Post
+choose-fold-requires t c κs = (choose-falls t (c .before .before .before .before .before .before .before .before .before .before .before), tt)
+
+choose-same-length : (t : ℕ) → choose-lts.Need-same-length (choose-calls t) (choose-at t) choose.Post
+choose-same-length t c = search needs
+
+choose-returns-2 : (t : ℕ) → choose-lts.Need-returns-2 (choose-calls t) (choose-at t) choose.Post
+choose-returns-2 t c = λ h. rw (c .before .before .before .before .match .keys1) (leaf-step _ (c .before .before .push .ensures))
+
+choose-same-length-2 : (t : ℕ) → choose-lts.Need-same-length-2 (choose-calls t) (choose-at t) choose.Post
+choose-same-length-2 t c = search needs
+
+choose-same-length-3 : (t : ℕ) → choose-lts.Need-same-length-3 (choose-calls t) (choose-at t) choose.Post
+choose-same-length-3 t c = search needs
+
+choose-returns-3 : (t : ℕ) → choose-lts.Need-returns-3 (choose-calls t) (choose-at t) choose.Post
+choose-returns-3 t c =
+    let arms = c .before .before .before .before in
+    let word = c .before .before .before .before .before .before .before .before .before in
+    let branch = c .before .before .before .before .before .before .before .before .before .before .before in
+    λ h. rw (branch .match .keys2) (action-step (omega (arith, branch .before .before .if1 .left)) (word .push2 .ensures) (word .push2 .kept .0) (arms .own .ensures))
+
+choose-same-length-4 : (t : ℕ) → choose-lts.Need-same-length-4 (choose-calls t) (choose-at t) choose.Post
+choose-same-length-4 t c = search needs
+
+choose-same-length-5 : (t : ℕ) → choose-lts.Need-same-length-5 (choose-calls t) (choose-at t) choose.Post
+choose-same-length-5 t c = search needs
+
+choose-returns-4 : (t : ℕ) → choose-lts.Need-returns-4 (choose-calls t) (choose-at t) choose.Post
+choose-returns-4 t c =
+    let all = c .before .before .before .before .before .before in
+    let first = c .before .before .before .before .before .before .before .before .before .before .before .before .before in
+    let arm = c .before .before .before .before .before .before .before .before .before .before .before .before .before .before .before .before in
+    let branch = c .before .before .before .before .before .before .before .before .before .before .before .before .before .before .before .before .before in
+    λ h. others-step _ (omega (arith, branch .before .before .if1 .left)) (more-than-two _ (branch .match .rest .0 .1) h (branch .match .rest .1))
+    (arm .arm-at .ensures) (first .project .kept .1 .1 .1 .1 .1 .0) (first .project .kept .1 .1 .1 .1 .1 .1 .1 .0) (first .project .ensures) (all .fold .ensures)
 
 abbrev fold-calls : ℕ → fold-lts.Claims
 fold-calls t = (
@@ -177,71 +264,22 @@ own-returns-2 t c =
 
 abbrev project-calls : ℕ → project-lts.Claims
 project-calls t = (
-  ahead-reads.Asked,
-  ahead-reads.Learnt,
-  push-reads.Asked,
-  push-reads.Learnt,
-  project-below t,
-  project.Post,
-  sole-reads.Asked,
-  sole-reads.Learnt,
-  arm-at-reads.Asked,
-  arm-at-reads.Learnt,
-  own-below t,
-  own.Post,
-  fold-below t,
-  fold.Post,
+  walk-reads.Asked,
+  walk-reads.Learnt,
+  choose-below t,
+  choose.Post,
+  close-reads.Asked,
+  close-reads.Learnt,
 )
 
-project-ahead-requires : (t : ℕ) → project-lts.Need-ahead-requires (project-calls t) (project-at t) project.Post
-project-ahead-requires t c κs = search needs
+project-walk-requires : (t : ℕ) → project-lts.Need-walk-requires (project-calls t) (project-at t) project.Post
+project-walk-requires t c κs = search needs
 
-project-returns : (t : ℕ) → project-lts.Need-returns (project-calls t) (project-at t) project.Post
-project-returns t c = chosen (c .before .before .ahead .ensures) refl (no-links _ (c .if1 .taken))
+project-choose-requires : (t : ℕ) → project-lts.Need-choose-requires (project-calls t) (project-at t) project.Post
+project-choose-requires t c κs = (omega (arith, c .before .before .before .before .walk .ensures .within, c .before .before .before .before .before .before .before .before .before .before .before .pre .0), tt)
 
-project-sub-less : (t : ℕ) → project-lts.Need-sub-less (project-calls t) (project-at t) project.Post
-project-sub-less t c = omega (arith, c .before .if1 .left)
-
--- fewer links are left behind the rows that were passed
-fewer : (t : ℕ) (c : project-lts.After-struct-known2 (project-calls t) (project-at t) project.Post) → c .before .before .before .ahead .result .left - 1 < t
-fewer t c = omega (arith, c .before .if1 .left, c .before .before .before .ahead .ensures .within, c .before .before .before .before .before .before .before .before .before .pre .0)
-
-project-push-requires : (t : ℕ) → project-lts.Need-push-requires (project-calls t) (project-at t) project.Post
-project-push-requires t c κs = search needs
-
-project-push-requires-2 : (t : ℕ) → project-lts.Need-push-requires-2 (project-calls t) (project-at t) project.Post
-project-push-requires-2 t c κs = search needs
-
-project-project-requires : (t : ℕ) → project-lts.Need-project-requires (project-calls t) (project-at t) project.Post
-project-project-requires t c κs = (fewer t (c .before .before .before .before .before .before .before), tt)
-
-project-push-requires-3 : (t : ℕ) → project-lts.Need-push-requires-3 (project-calls t) (project-at t) project.Post
-project-push-requires-3 t c κs = search needs
-
-project-sole-requires : (t : ℕ) → project-lts.Need-sole-requires (project-calls t) (project-at t) project.Post
-project-sole-requires t c κs = search needs
-
--- the only arm of an action has a link left
-room-left : (t : ℕ) (c : project-lts.Then2 (project-calls t) (project-at t) project.Post) → 0 < c .before .before .before .before .before .before .before .before .before .before .ahead .result .left - 1
-room-left t c =
-    let way = c .before .before .before .before .before .before .before .before .before .before .ahead .result in
-    let order = c .before .before .before .before .before .before .before .before .before .before .before .before .before .before .before .before .args .order .now in
-    sole-left (way .next) (way .left - 1) (eqb (getD order (way .next) 0) 0) (sym (c .before .sole .ensures) ∙ c .if2 .taken)
-
-project-arm-at-requires : (t : ℕ) → project-lts.Need-arm-at-requires (project-calls t) (project-at t) project.Post
-project-arm-at-requires t c κs = search needs
-
-project-push-requires-4 : (t : ℕ) → project-lts.Need-push-requires-4 (project-calls t) (project-at t) project.Post
-project-push-requires-4 t c κs = search needs
-
-project-sub-project : (t : ℕ) → project-lts.Need-sub-project (project-calls t) (project-at t) project.Post
-project-sub-project t c = room-left t (c .before .before .before .before .before .before .before)
-
-project-project-requires-2 : (t : ℕ) → project-lts.Need-project-requires-2 (project-calls t) (project-at t) project.Post
-project-project-requires-2 t c κs = (omega (arith, fewer t (c .before .before .before .before .before .before .before .before .before .before .before .before .before .before)), tt)
-
-project-push-requires-5 : (t : ℕ) → project-lts.Need-push-requires-5 (project-calls t) (project-at t) project.Post
-project-push-requires-5 t c κs = search needs
+project-close-requires : (t : ℕ) → project-lts.Need-close-requires (project-calls t) (project-at t) project.Post
+project-close-requires t c κs = search needs
 
 project-same-length : (t : ℕ) → project-lts.Need-same-length (project-calls t) (project-at t) project.Post
 project-same-length t c = search needs
@@ -249,87 +287,34 @@ project-same-length t c = search needs
 project-same-length-2 : (t : ℕ) → project-lts.Need-same-length-2 (project-calls t) (project-at t) project.Post
 project-same-length-2 t c = search needs
 
-project-returns-2 : (t : ℕ) → project-lts.Need-returns-2 (project-calls t) (project-at t) project.Post
-project-returns-2 t c =
-    let mark = c .before .before in
+project-returns : (t : ℕ) → project-lts.Need-returns (project-calls t) (project-at t) project.Post
+project-returns t c =
+    let marks = c .before .before in
     let part = c .before .before .before .before .before .before .before .before in
-    let word = c .before .before .before .before .before .before .before .before .before .before .before .before .before in
-    let arm = c .before .before .before .before .before .before .before .before .before .before .before .before .before .before .before in
-    let only = c .before .before .before .before .before .before .before .before .before .before .before .before .before .before .before .before in
-    let first = c .before .before .before .before .before .before .before .before .before .before .before .before .before .before .before .before .before .before .before .before in
-    let branch = c .before .before .before .before .before .before .before .before .before .before .before .before .before .before .before .before .before .before .before .before .before .before in
-    let room = room-left t only in
-    chosen (branch .before .before .before .before .ahead .ensures) (branch .match .keys3)
-    (sole-step {less = branch .before .before .before .before .ahead .result .left - 1} _ (omega (arith, branch .before .before .if1 .left)) (omega (arith, room)) (sym (only .before .sole .ensures) ∙ only .if2 .taken) (arm .arm-at .ensures)
-    (first .push3 .ensures) (word .push4 .ensures) (part .project2 .ensures) (mark .push5 .ensures) (first .push3 .kept .0) (word .push4 .kept .0)
-    (part .project2 .kept .1 .1 .1 .1 .1 .0 ∙ word .push4 .kept .0))
+    let way = c .before .before .before .before .before .before .before .before .before .before .before .before .before in
+    project-step _ (way .walk .ensures) (part .choose .ensures) (marks .close .ensures) (way .walk .kept .1 .1 .1 .1 .1 .0) (part .choose .kept .1 .1 .1 .1 .1 .0)
 
-project-own-requires : (t : ℕ) → project-lts.Need-own-requires (project-calls t) (project-at t) project.Post
-project-own-requires t c κs = (fewer t (c .before .before .before .before .before .before .before .before .before), tt)
-
-project-arm-at-requires-2 : (t : ℕ) → project-lts.Need-arm-at-requires-2 (project-calls t) (project-at t) project.Post
-project-arm-at-requires-2 t c κs = search needs
-
-project-project-requires-3 : (t : ℕ) → project-lts.Need-project-requires-3 (project-calls t) (project-at t) project.Post
-project-project-requires-3 t c κs = (fewer t (c .before .before .before .before), tt)
-
-project-fold-requires : (t : ℕ) → project-lts.Need-fold-requires (project-calls t) (project-at t) project.Post
-project-fold-requires t c κs = (fewer t (c .before .before .before .before .before .before .before .before .before .before .before), tt)
-
-project-same-length-3 : (t : ℕ) → project-lts.Need-same-length-3 (project-calls t) (project-at t) project.Post
-project-same-length-3 t c = search needs
-
-project-returns-3 : (t : ℕ) → project-lts.Need-returns-3 (project-calls t) (project-at t) project.Post
-project-returns-3 t c =
-    let branch = c .before .before .before .before in
-    chosen (branch .before .before .before .before .ahead .ensures) (branch .match .keys1) (leaf-step _ (c .before .before .push .ensures))
-
-project-same-length-4 : (t : ℕ) → project-lts.Need-same-length-4 (project-calls t) (project-at t) project.Post
-project-same-length-4 t c = search needs
-
-project-same-length-5 : (t : ℕ) → project-lts.Need-same-length-5 (project-calls t) (project-at t) project.Post
-project-same-length-5 t c = search needs
-
-project-returns-4 : (t : ℕ) → project-lts.Need-returns-4 (project-calls t) (project-at t) project.Post
-project-returns-4 t c =
-    let body = c .before .before .before .before in
-    let word = c .before .before .before .before .before .before .before .before .before in
-    let branch = c .before .before .before .before .before .before .before .before .before .before .before in
-    chosen (branch .before .before .before .before .ahead .ensures) (branch .match .keys2)
-    (loop-step (omega (arith, branch .before .before .if1 .left)) (word .push2 .ensures) (word .push2 .kept .0) (body .project .ensures))
-
-project-same-length-6 : (t : ℕ) → project-lts.Need-same-length-6 (project-calls t) (project-at t) project.Post
-project-same-length-6 t c = search needs
-
-project-same-length-7 : (t : ℕ) → project-lts.Need-same-length-7 (project-calls t) (project-at t) project.Post
-project-same-length-7 t c = search needs
-
-project-returns-5 : (t : ℕ) → project-lts.Need-returns-5 (project-calls t) (project-at t) project.Post
-project-returns-5 t c =
-    let arms = c .before .before .before .before in
-    let word = c .before .before .before .before .before .before .before .before .before .before .before in
-    let branch = c .before .before .before .before .before .before .before .before .before .before .before .before .before in
-    chosen (branch .before .before .before .before .ahead .ensures) (branch .match .keys3)
-    (action-step (omega (arith, branch .before .before .if1 .left)) (word .push3 .ensures) (word .push3 .kept .0) (arms .own .ensures))
-
-project-same-length-8 : (t : ℕ) → project-lts.Need-same-length-8 (project-calls t) (project-at t) project.Post
-project-same-length-8 t c = search needs
-
-project-same-length-9 : (t : ℕ) → project-lts.Need-same-length-9 (project-calls t) (project-at t) project.Post
-project-same-length-9 t c = search needs
-
-project-returns-6 : (t : ℕ) → project-lts.Need-returns-6 (project-calls t) (project-at t) project.Post
-project-returns-6 t c =
-    let all = c .before .before .before .before .before .before in
-    let first = c .before .before .before .before .before .before .before .before .before .before .before .before .before in
-    let arm = c .before .before .before .before .before .before .before .before .before .before .before .before .before .before .before .before in
-    let branch = c .before .before .before .before .before .before .before .before .before .before .before .before .before .before .before .before .before in
-    chosen (branch .before .before .before .before .ahead .ensures) refl
-    (others-step _ (omega (arith, branch .before .before .if1 .left)) (more-than-two _ (branch .match .rest .0 .0 .1) (branch .match .rest .0 .1) (branch .match .rest .1))
-    (arm .arm-at2 .ensures) (first .project3 .kept .1 .1 .1 .1 .1 .0) (first .project3 .kept .1 .1 .1 .1 .1 .1 .1 .0) (first .project3 .ensures) (all .fold .ensures))
-
-pub +fold+own+project-spec : {M : Type 1} → statement M
-+fold+own+project-spec = close μ-fold μ-own μ-project (λ t. fold-lts.spec (fold-calls t)
+pub +choose+fold+own+project-spec : {M : Type 1} → statement M
++choose+fold+own+project-spec = close μ-choose μ-fold μ-own μ-project (λ t. choose-lts.spec (choose-calls t)
+    (choose-at t)
+    choose.Post
+    (choose-returns t)
+    (choose-sub-less t)
+    (choose-push-requires t)
+    (choose-push-requires-2 t)
+    (choose-own-requires t)
+    (choose-arm-at-requires t)
+    (choose-project-requires t)
+    (choose-fold-requires t)
+    (choose-same-length t)
+    (choose-returns-2 t)
+    (choose-same-length-2 t)
+    (choose-same-length-3 t)
+    (choose-returns-3 t)
+    (choose-same-length-4 t)
+    (choose-same-length-5 t)
+    (choose-returns-4 t))
+    (λ t. fold-lts.spec (fold-calls t)
     (fold-at t)
     fold.Post
     (fold-returns t)
@@ -360,34 +345,9 @@ pub +fold+own+project-spec : {M : Type 1} → statement M
     (λ t. project-lts.spec (project-calls t)
     (project-at t)
     project.Post
-    (project-ahead-requires t)
-    (project-returns t)
-    (project-sub-less t)
-    (project-push-requires t)
-    (project-push-requires-2 t)
-    (project-project-requires t)
-    (project-push-requires-3 t)
-    (project-sole-requires t)
-    (project-arm-at-requires t)
-    (project-push-requires-4 t)
-    (project-sub-project t)
-    (project-project-requires-2 t)
-    (project-push-requires-5 t)
+    (project-walk-requires t)
+    (project-choose-requires t)
+    (project-close-requires t)
     (project-same-length t)
     (project-same-length-2 t)
-    (project-returns-2 t)
-    (project-own-requires t)
-    (project-arm-at-requires-2 t)
-    (project-project-requires-3 t)
-    (project-fold-requires t)
-    (project-same-length-3 t)
-    (project-returns-3 t)
-    (project-same-length-4 t)
-    (project-same-length-5 t)
-    (project-returns-4 t)
-    (project-same-length-6 t)
-    (project-same-length-7 t)
-    (project-returns-5 t)
-    (project-same-length-8 t)
-    (project-same-length-9 t)
-    (project-returns-6 t))
+    (project-returns t))
