@@ -1,31 +1,25 @@
 -- The writing of rows, one code at a time: what the code does at each step is what its mirror says. Assumes nothing.
 use Prim.Native.Nat.{ℕ, zero, suc, _+_, _-_, _<_, _≤_, _/_, _%_}
-use mathlib.Core.Bool.{Bool, true, false, cond, _&&_, not}
+use mathlib.Core.Bool.{Bool, true, false, cond, _&&_}
 use mathlib.Core.List.{List}
-use mathlib.Core.Logic.{_≢_, _⊎_, inl, inr, ⊎-elim}
+use mathlib.Core.Logic.{_≢_, _⊎_, ⊎-elim}
 use mathlib.Core.Path.{_≡_, refl, sym, _∙_}
 use native.Mathlib.Omega.{arith}
 use native.Mathlib.Numerals.{sub-one}
 use lib.Dec.{ltb, leb, eqb}
 use lib.ListN.{getD, set}
-use borrow.Author.Tests.{lt-ltb, le-ltb, eq-eqb, ne-eqb, eqb-false, ltb-true, leb-true, not-true, not-false}
+use borrow.Author.Tests.{lt-ltb, le-ltb, eq-eqb, ne-eqb, eqb-false, ltb-true, leb-true}
 use Rattle.words.proofs.Below.{and-both}
-use Rattle.words.specs.Rows.{putRow}
-use Rattle.layout.specs.mirror.Lay.{LIMIT, inside, Inside, stepAt, loopRow, nextRow, putArm, putLoop, putBack, putLast, putAction, Lay, layBody, layS, clearS}
+use Rattle.words.specs.Rows.{word, putRow}
+use Rattle.layout.specs.mirror.Lay.{LIMIT, inside, Inside, stepAt, loopRow, nextRow, openArm, closeArm, resume, putLoop, putLast, lastRow, putAction, Lay, turnBody, runS, endS, clearS}
 use Rattle.layout.specs.declared.Laid.{Laid}
+use Rattle.layout.specs.declared.Resumed.{Resumed}
 
 -- ---- the step at a code
 
 -- the step of a kind: 5 for Send and Receive
 abbrev stepOf : ℕ → ℕ
 stepOf k = cond (eqb k 6) 5 k
-
--- what is neither of the other kinds
-other-kind : (k : ℕ) → ((k ≡ 0) ⊎ (k ≡ 4) → ⊥) → k ≢ 1 → k ≢ 2 → k ≢ 3 → 4 < k
-other-kind k h n1 n2 n3 =
-    let n0 : k ≢ 0 = λ e. h (inl e) in
-    let n4 : k ≢ 4 = λ e. h (inr e) in
-    omega arith
 
 action-step : (k : ℕ) → k < 7 → 4 < k → 5 ≡ stepOf k
 action-step k l h = go (eqb k 6) refl
@@ -36,10 +30,10 @@ action-step k l h = go (eqb k 6) refl
 
 -- b: what the code found of its range
 module _ (n i from row depth : ℕ) (b : Bool) (eb : b ≡ inside n i from row depth) where
-  within : not b ≡ false → inside n i from row depth ≡ true
-  within e = sym eb ∙ not-false b e
+  within : b ≡ true → inside n i from row depth ≡ true
+  within e = sym eb ∙ e
 
-  pub in-range : not b ≡ false → Inside n i from row depth
+  pub in-range : b ≡ true → Inside n i from row depth
   in-range e =
       let (p, d) = and-both (((ltb 0 n && ltb i LIMIT) && leb from LIMIT) && ltb row LIMIT) (ltb depth LIMIT) (within e) in
       let (q, r) = and-both ((ltb 0 n && ltb i LIMIT) && leb from LIMIT) (ltb row LIMIT) p in
@@ -53,13 +47,22 @@ module _ (n i from row depth : ℕ) (b : Bool) (eb : b ≡ inside n i from row d
         depth-in = ltb-true depth LIMIT d;
       }
 
-  step-out : not b ≡ true → (s : List ℕ) → 7 ≡ stepAt n s i from row depth
+  step-out : b ≡ false → (s : List ℕ) → 7 ≡ stepAt n s i from row depth
   unfolding stepAt
-  step-out e s = rw (← eb, not-true b e)
+  step-out e s = rw (← eb, e)
 
-  step-in : not b ≡ false → (s : List ℕ) (w : ℕ) → w ≡ getD s i 0 → stepOf (w % 8) ≡ stepAt n s i from row depth
+  step-in : b ≡ true → (s : List ℕ) (w : ℕ) → w ≡ getD s i 0 → stepOf (w % 8) ≡ stepAt n s i from row depth
   unfolding stepAt
   step-in e s w ew = rw (within e, ew)
+
+-- ---- the row of a Back's Loop; back: its depth
+
+module _ (w back depth : ℕ) (eb : back ≡ w / 8) where
+  pub back-in : (eqb (w % 8) 4 && ltb back depth) ≡ true → back < depth
+  back-in e = ltb-true back depth (and-both (eqb (w % 8) 4) (ltb back depth) e .1)
+
+  pub back-row : (b : Bool) → (eqb (w % 8) 4 && ltb back depth) ≡ b → (loops : List ℕ) → cond b (getD loops (depth - 1 - back) 0) 0 ≡ loopRow w loops depth
+  back-row b e loops = rw (← eb, e)
 
 -- ---- the row of the next arm
 
@@ -74,20 +77,38 @@ next-none s i row w ew h k = rw (le-ltb LIMIT row h, ← ew, ne-eqb (w % 8) 2 k)
 
 -- ---- the rows, from what the code found
 
-pub arm-row : (s out : List ℕ) (from row j r w n x : ℕ) (o : List ℕ) → n ≡ row + 1 → x ≡ nextRow s j r → o ≡ putRow out (from + row) 2 (w / 8) n x
-    → o ≡ putArm w s out from row j r
-arm-row s out from row j r w n x o en ex eo = eo ∙ rw (en, ex)
+pub open-row : (out : List ℕ) (from row w depth wait d x : ℕ) (o : List ℕ) → d ≡ depth → x ≡ wait → o ≡ putRow out (from + row) 2 (w / 8) d x
+    → o ≡ openArm w out from row depth wait
+open-row out from row w depth wait d x o ed ex eo = eo ∙ rw (ed, ex)
 
 pub loop-row : (out : List ℕ) (from row n : ℕ) (o : List ℕ) → n ≡ row + 1 → o ≡ putRow out (from + row) 3 n 0 0 → o ≡ putLoop out from row
 loop-row out from row n o en eo = eo ∙ rw en
 
-pub back-row : (out : List ℕ) (from row : ℕ) (loops : List ℕ) (depth w k x : ℕ) (o : List ℕ) → k ≡ w / 8 → x ≡ loopRow loops depth k
-    → o ≡ putRow out (from + row) 4 x 0 0 → o ≡ putBack w out from row loops depth
-back-row out from row loops depth w k x o ek ex eo = eo ∙ rw (ex, ek)
-
 pub action-row : (out : List ℕ) (from row w n : ℕ) (o : List ℕ) → n ≡ row + 1 → o ≡ putRow out (from + row) (w % 8) (w / 8) n 0
     → o ≡ putAction w out from row
 action-row out from row w n o en eo = eo ∙ rw en
+
+-- ---- the end of a part, from what the code found
+
+pub end-whole : (s out : List ℕ) (from i row wait left : ℕ) → wait ≡ 0
+    → (record { depth = 0; wait = 0; left = 0 } ≡ resume out from wait left) × (0 ≤ LIMIT) × (out ≡ closeArm s out from i row wait)
+end-whole s out from i row wait left e = rw e (refl, omega arith, refl)
+
+pub end-arm : (s out : List ℕ) (from i row wait left arm label d x n y d′ x′ : ℕ) (o : List ℕ) → 0 < wait → arm ≡ from + (wait - 1)
+    → label ≡ word out arm 1 → d ≡ word out arm 2 → x ≡ word out arm 3 → y ≡ nextRow s i row → n ≡ wait → o ≡ putRow out arm 2 label n y
+    → d′ ≡ d → (x′ ≡ x) × (x′ < 65536)
+    → (record { depth = d′; wait = x′; left = left } ≡ resume out from wait left) × (x′ ≤ LIMIT) × (o ≡ closeArm s out from i row wait)
+end-arm s out from i row zero left arm label d x n y d′ x′ o h ea el ed ex ey en eo ed′ ex′ = absurd (omega arith)
+end-arm s out from i row (suc a) left arm label d x n y d′ x′ o h ea el ed ex ey en eo ed′ ex′ =
+    let e : arm ≡ from + a = omega arith in
+    (rw (ed′, ex′ .0, ed, ex, e), omega arith, eo ∙ rw (el, en, ey, e))
+
+-- no more is left than before
+pub resume-left : (out : List ℕ) (from wait n : ℕ) (q : Resumed) → q ≡ resume out from wait n → q .left ≤ n
+resume-left out from zero n q e = rw e (omega arith)
+resume-left out from (suc arm) n q e = rw e (omega arith)
+
+-- ---- the zeros
 
 pub clear-none : (out : List ℕ) (first n : ℕ) → n ≡ 0 → out ≡ clearS out first n
 unfolding clearS
@@ -105,56 +126,73 @@ clear-more out first n m row o o′ eo eo′ er em = eo′ ∙ rw (er, em, eo)
 abbrev pub Ends : Laid → List ℕ → List ℕ → Lay → Type 0
 Ends r o l m = (r ≡ m .res) × (o ≡ m .out) × (l ≡ m .loops)
 
-lay-eq : (n : ℕ) (s : List ℕ) (from i : ℕ) (out : List ℕ) (row : ℕ) (loops : List ℕ) (depth : ℕ)
-    → layS n s from i out row loops depth ≡ layBody (λ j o r l d. layS (n - 1) s from j o r l d) (stepAt n s i from row depth) s from i out row loops
-    depth
-unfolding layS stepAt
-lay-eq zero s from i out row loops depth = refl
-lay-eq (suc n) s from i out row loops depth = rw (sub-one (suc n))
+run-eq : (n : ℕ) (s : List ℕ) (from i : ℕ) (out : List ℕ) (row : ℕ) (loops : List ℕ) (depth wait : ℕ)
+    → runS n s from i out row loops depth wait ≡ turnBody (λ j o r l d w. runS (n - 1) s from j o r l d w) (stepAt n s i from row depth) s from i out row
+    loops depth wait
+unfolding runS stepAt
+run-eq zero s from i out row loops depth wait = refl
+run-eq (suc n) s from i out row loops depth wait = rw (sub-one (suc n))
 
-pub lay-at : (n : ℕ) (s : List ℕ) (from i : ℕ) (out : List ℕ) (row : ℕ) (loops : List ℕ) (depth k : ℕ) → k ≡ stepAt n s i from row depth
-    → layS n s from i out row loops depth ≡ layBody (λ j o r l d. layS (n - 1) s from j o r l d) k s from i out row loops depth
-lay-at n s from i out row loops depth k ek = rw ek (lay-eq n s from i out row loops depth)
+pub run-at : (n : ℕ) (s : List ℕ) (from i : ℕ) (out : List ℕ) (row : ℕ) (loops : List ℕ) (depth wait k : ℕ) → k ≡ stepAt n s i from row depth
+    → runS n s from i out row loops depth wait ≡ turnBody (λ j o r l d w. runS (n - 1) s from j o r l d w) k s from i out row loops depth wait
+run-at n s from i out row loops depth wait k ek = rw ek (run-eq n s from i out row loops depth wait)
+
+-- the end of a part, as the code goes on behind it
+end-eq : (n : ℕ) (s : List ℕ) (from i : ℕ) (out : List ℕ) (row : ℕ) (loops : List ℕ) (wait : ℕ)
+    → endS n s from i out row loops wait
+    ≡ runS (resume out from wait n .left) s from i (closeArm s out from i row wait) row loops (resume out from wait n .depth) (resume out from wait n .wait)
+unfolding runS
+end-eq n s from i out row loops zero = refl
+end-eq n s from i out row loops (suc arm) = refl
 
 -- a turn of `lay`; before: what the whole call leaves
-module _ (before : Lay) (n : ℕ) (s : List ℕ) (from i : ℕ) (out : List ℕ) (row : ℕ) (loops : List ℕ) (depth : ℕ)
-    (same : before ≡ layS n s from i out row loops depth) (b : Bool) (eb : b ≡ inside n i from row depth) where
-  abbrev Whole : Laid → List ℕ → List ℕ → Type 0
-  Whole r o l = Ends r o l before
+module _ (before : Lay) (n : ℕ) (s : List ℕ) (from i : ℕ) (out : List ℕ) (row : ℕ) (loops : List ℕ) (depth wait : ℕ)
+    (same : before ≡ runS n s from i out row loops depth wait) (b : Bool) (eb : b ≡ inside n i from row depth) where
+  turn : (k : ℕ) → k ≡ stepAt n s i from row depth
+      → before ≡ turnBody (λ j o r l d w. runS (n - 1) s from j o r l d w) k s from i out row loops depth wait
+  turn k ek = same ∙ run-at n s from i out row loops depth wait k ek
 
-  turn : (k : ℕ) → k ≡ stepAt n s i from row depth → before ≡ layBody (λ j o r l d. layS (n - 1) s from j o r l d) k s from i out row loops depth
-  turn k ek = same ∙ lay-at n s from i out row loops depth k ek
-
-  pub lay-out : not b ≡ true → Whole (record { code = i; row = row }) out loops
-  lay-out e = rw (turn 7 (step-out n i from row depth b eb e s)) (refl, refl, refl)
+  pub lay-done : b ≡ false → Ends (record { code = i; row = row }) out loops before
+  lay-done e = rw (turn 7 (step-out n i from row depth b eb e s)) (refl, refl, refl)
 
   -- at the code w
-  module _ (e : not b ≡ false) (w : ℕ) (ew : w ≡ getD s i 0) where
-    step : (k : ℕ) → k ≡ stepOf (w % 8) → before ≡ layBody (λ j o r l d. layS (n - 1) s from j o r l d) k s from i out row loops depth
+  module _ (e : b ≡ true) (w : ℕ) (ew : w ≡ getD s i 0) where
+    step : (k : ℕ) → k ≡ stepOf (w % 8) → before ≡ turnBody (λ j o r l d w. runS (n - 1) s from j o r l d w) k s from i out row loops depth wait
     step k ek = turn k (ek ∙ step-in n i from row depth b eb e s w ew)
 
     -- what is left to do
-    abbrev Next : ℕ → List ℕ → ℕ → List ℕ → ℕ → Type 0
-    Next j o r l d = before ≡ layS (n - 1) s from j o r l d
+    abbrev Next : ℕ → List ℕ → ℕ → List ℕ → ℕ → ℕ → ℕ → Type 0
+    Next j o r l d x m = before ≡ runS m s from j o r l d x
 
-    -- an End or a Back
-    pub lay-last : (w % 8 ≡ 0) ⊎ (w % 8 ≡ 4) → (o : List ℕ) → o ≡ putLast w out from row loops depth → Whole (record { code = i + 1; row = row + 1 }) o loops
-    lay-last k o eo =
-        ⊎-elim (λ k0. rw (step 0 (rw k0)) (refl, eo ∙ rw k0, refl)) (λ k4. rw (step 4 (rw k4), ← ew) (refl, eo ∙ rw k4, refl)) k
+    -- an End, a Back or the mark behind the last arm
+    abbrev Last : Type 0
+    Last = before ≡ endS (n - 1) s from (i + 1) (putLast w out from row loops depth) (lastRow w row) loops wait
 
-    pub lay-close : w % 8 ≡ 1 → Whole (record { code = i + 1; row = row }) out loops
-    lay-close k = rw (step 1 (rw k)) (refl, refl, refl)
+    last : (w % 8 ≡ 4) ⊎ (w % 8 < 2) → Last
+    last k = ⊎-elim (λ k4. rw (step 4 (rw k4), ← ew)) (λ l. low (w % 8) refl l) k
+      where
+        low : (k : ℕ) → w % 8 ≡ k → k < 2 → Last
+        low zero e l = rw (step 0 (rw e), ← ew)
+        low (suc zero) e l = rw (step 1 (rw e), ← ew)
+        low (suc (suc k)) e l = absurd (omega arith)
 
-    pub lay-arm : w % 8 ≡ 2 → (r : Laid) (o l : List ℕ) → Ends r o l (layS (n - 1) s from (i + 1) out (row + 1) loops depth)
-        → (o′ : List ℕ) → o′ ≡ putArm w s o from row (r .code) (r .row) → Next (r .code) o′ (r .row) l depth
-    lay-arm k r o l h o′ eo = rw (step 2 (rw k), ← (h .0), ← (h .1), ← (h .2), ← ew, ← eo)
+    pub lay-last : (w % 8 ≡ 4) ⊎ (w % 8 < 2) → (r : ℕ) (o : List ℕ) → r ≡ lastRow w row → o ≡ putLast w out from row loops depth
+        → (q : Resumed) → q ≡ resume o from wait (n - 1) → (o′ : List ℕ) → o′ ≡ closeArm s o from (i + 1) r wait
+        → Next (i + 1) o′ r loops (q .depth) (q .wait) (q .left)
+    lay-last k r o er eo q eq o′ eo′ =
+        let ended : before ≡ endS (n - 1) s from (i + 1) o r loops wait = rw (er, eo) (last k) in
+        ended ∙ rw (eq, eo′) (end-eq (n - 1) s from (i + 1) o r loops wait)
 
-    pub lay-loop : w % 8 ≡ 3 → (o l : List ℕ) → o ≡ putLoop out from row → l ≡ set loops depth row → Next (i + 1) o (row + 1) l (depth + 1)
+    pub lay-arm : w % 8 ≡ 2 → (o : List ℕ) → o ≡ openArm w out from row depth wait → Next (i + 1) o (row + 1) loops depth (row + 1) (n - 1)
+    lay-arm k o eo = rw (step 2 (rw k), ← ew, ← eo)
+
+    pub lay-loop : w % 8 ≡ 3 → (o l : List ℕ) → o ≡ putLoop out from row → l ≡ set loops depth row → Next (i + 1) o (row + 1) l (depth + 1) wait (n - 1)
     lay-loop k o l eo el = rw (step 3 (rw k), ← eo, ← el)
 
-    pub lay-nothing : w % 8 ≡ 7 → Whole (record { code = i; row = row }) out loops
-    lay-nothing k = rw (step 7 (rw k)) (refl, refl, refl)
+    pub lay-nothing : w % 8 ≡ 7 → Next i out row loops depth wait 0
+    unfolding runS
+    lay-nothing k = step 7 (rw k)
 
-    pub lay-action : ((w % 8 ≡ 0) ⊎ (w % 8 ≡ 4) → ⊥) → w % 8 ≢ 1 → w % 8 ≢ 2 → w % 8 ≢ 3 → w % 8 ≢ 7 → (o : List ℕ) → o ≡ putAction w out from row
-        → Next (i + 1) o (row + 1) loops depth
-    lay-action h n1 n2 n3 n7 o eo = rw (step 5 (action-step (w % 8) (omega (arith, n7)) (other-kind (w % 8) h n1 n2 n3)), ← ew, ← eo)
+    pub lay-action : 2 ≤ w % 8 → w % 8 ≢ 2 → w % 8 ≢ 3 → w % 8 ≢ 4 → w % 8 ≢ 7 → (o : List ℕ) → o ≡ putAction w out from row
+        → Next (i + 1) o (row + 1) loops depth wait (n - 1)
+    lay-action h n2 n3 n4 n7 o eo = rw (step 5 (action-step (w % 8) (omega arith) (omega arith)), ← ew, ← eo)

@@ -6,12 +6,19 @@ ghost use lib.Seq.{sets};
 ghost use Rattle.parts.specs.Part.{Part};
 ghost use Rattle.parts.specs.Layout.{block};
 ghost use Rattle.parts.specs.mirror.Codes.{codes};
-ghost use Rattle.layout.specs.mirror.Lay.{LIMIT, inside, loopRow, nextRow, putArm, putLoop, putLast, putAction, layS, clearS, Ready};
+ghost use Rattle.layout.specs.mirror.Lay.{LIMIT, inside, loopRow, nextRow, openArm, closeArm, resume, putLoop, putLast, lastRow, putAction, runS, clearS, Ready};
 
 // Where the codes and the rows of a part end.
 pub struct Laid {
     pub code: usize,
     pub row: usize,
+}
+
+// What goes on behind the end of a part: the Loops around, the arm that waits next, and the codes left.
+struct Resumed {
+    depth: usize,
+    wait: usize,
+    left: usize,
 }
 
 // Codes, rows and Loops are counted up to this, so that a row's number is a word.
@@ -30,11 +37,12 @@ fn in_range(left: usize, code: usize, from: usize, row: usize, depth: usize) -> 
     (0 < left) & (code < LIMIT) & (from <= LIMIT) & (row < LIMIT) & (depth < LIMIT)
 }
 
-// The row of the Loop that a Back of that depth names, of the Loops around it; 0 where they are too few.
-fn loop_row(loops: &[u16], depth: usize, back: usize) -> u16
-    ensures { λ r. ⌜ r ≡ loopRow (now (loops .entry)) depth back ⌝ }
+// The row of the Loop that the Back that this word is names, of the Loops around it; 0 where they are too few, and for any other word.
+fn loop_row(word: u16, loops: &[u16], depth: usize) -> u16
+    ensures { λ r. ⌜ r ≡ loopRow word (now (loops .entry)) depth ⌝ }
 {
-    if back < depth {
+    let back = words::wide(word / 8);
+    if (word % 8 == 4) & (back < depth) {
         words::peek(loops, depth - 1 - back)
     } else {
         0
@@ -55,13 +63,48 @@ fn next_row(src: &[u16], code: usize, row: usize) -> u16
     }
 }
 
-// The row of the arm that this word is, whose continuation ends at `end`.
-fn put_arm(word: u16, src: &[u16], out: &mut [u16], from: usize, row: usize, end: Laid)
-    requires { ⌜ (from ≤ LIMIT) × (row < LIMIT) ⌝ }
-    ensures { λ _. ⌜ now (out .exit) ≡ putArm word (now (src .entry)) (now (out .entry)) from row (end .code) (end .row) ⌝ }
+// The row of the arm that this word is, until its continuation is there: its last two words keep what has to come back then, the
+// Loops around it and the arm that waits around it.
+fn open_arm(word: u16, out: &mut [u16], from: usize, row: usize, depth: usize, wait: usize)
+    requires { ⌜ (from ≤ LIMIT) × (row < LIMIT) × (depth ≤ LIMIT) × (wait ≤ LIMIT) ⌝ }
+    ensures { λ _. ⌜ now (out .exit) ≡ openArm word (now (out .entry)) from row depth wait ⌝ }
 {
-    let next = next_row(src, end.code, end.row);
-    words::put_row(out, from + row, 2, word / 8, narrow(row + 1), next);
+    words::put_row(out, from + row, 2, word / 8, narrow(depth), narrow(wait));
+}
+
+// The part that ends before this code and this row is the continuation of the arm that waits: the arm gets its links, and what its
+// row kept comes back. Where none waits the whole is written, and nothing is left.
+fn end_part(
+    src: &[u16],
+    code: usize,
+    out: &mut [u16],
+    from: usize,
+    row: usize,
+    wait: usize,
+    left: usize,
+) -> Resumed
+    requires { ⌜ (from ≤ LIMIT) × (wait ≤ LIMIT) ⌝ }
+    ensures { λ r. ⌜ (r ≡ resume (now (out .entry)) from wait left) × (r .wait ≤ LIMIT)
+        × (now (out .exit) ≡ closeArm (now (src .entry)) (now (out .entry)) from code row wait) ⌝ }
+{
+    if wait == 0 {
+        return Resumed {
+            depth: 0,
+            wait: 0,
+            left: 0,
+        };
+    }
+    let arm = from + (wait - 1);
+    let label = words::word(out, arm, 1);
+    let depth = words::word(out, arm, 2);
+    let outer = words::word(out, arm, 3);
+    let next = next_row(src, code, row);
+    words::put_row(out, arm, 2, label, narrow(wait), next);
+    Resumed {
+        depth: words::wide(depth),
+        wait: words::wide(outer),
+        left: left,
+    }
 }
 
 // The row of a Loop, kept for the Backs inside it.
@@ -70,22 +113,27 @@ fn put_loop(out: &mut [u16], from: usize, row: usize, loops: &mut [u16], depth: 
     ensures { λ _. ⌜ (now (out .exit) ≡ putLoop (now (out .entry)) from row) × (now (loops .exit) ≡ set (now (loops .entry)) depth row) ⌝ }
 {
     words::put_row(out, from + row, 3, narrow(row + 1), 0, 0);
-    if depth < loops.len() {
-        loops[depth] = narrow(row);
-    }
+    words::poke(loops, depth, narrow(row));
 }
 
-// The row of the End or the Back that this word is.
-fn put_last(word: u16, out: &mut [u16], from: usize, row: usize, loops: &[u16], depth: usize)
+// The row of the End or the Back that this word is; the mark behind the last arm has none. The answer is the row behind it.
+fn put_last(
+    word: u16,
+    out: &mut [u16],
+    from: usize,
+    row: usize,
+    loops: &[u16],
+    depth: usize,
+) -> usize
     requires { ⌜ (from ≤ LIMIT) × (row < LIMIT) ⌝ }
-    ensures { λ _. ⌜ now (out .exit) ≡ putLast word (now (out .entry)) from row (now (loops .entry)) depth ⌝ }
+    ensures { λ r. ⌜ (r ≡ lastRow word row) × (now (out .exit) ≡ putLast word (now (out .entry)) from row (now (loops .entry)) depth) ⌝ }
 {
-    if word % 8 == 4 {
-        let home = loop_row(loops, depth, words::wide(word / 8));
-        words::put_row(out, from + row, 4, home, 0, 0);
-    } else {
-        words::put_row(out, from + row, 0, 0, 0, 0);
+    if word % 8 == 1 {
+        return row;
     }
+    let home = loop_row(word, loops, depth);
+    words::put_row(out, from + row, word % 8, home, 0, 0);
+    row + 1
 }
 
 // The row of the Send or the Receive that this word is.
@@ -96,53 +144,37 @@ fn put_action(word: u16, out: &mut [u16], from: usize, row: usize)
     words::put_row(out, from + row, word % 8, word / 8, narrow(row + 1), 0);
 }
 
-// The codes from `code` on written as rows from `row` on of the block that starts at row `from`: one part, or the arms to the end of
-// their action. An arm's own row is written last, when the row of the next arm is known, so only an arm's continuation is a call;
-// what stands behind any other code is the next turn.
-fn lay(
-    src: &[u16],
-    mut code: usize,
-    out: &mut [u16],
-    from: usize,
-    mut row: usize,
-    loops: &mut [u16],
-    mut depth: usize,
-    mut left: usize,
-) -> Laid
-    ensures { λ r. ⌜ (r ≡ layS left (now (src .entry)) from code (now (out .entry)) row (now (loops .entry)) depth .res)
-        × (now (out .exit) ≡ layS left (now (src .entry)) from code (now (out .entry)) row (now (loops .entry)) depth .out)
-        × (now (loops .exit) ≡ layS left (now (src .entry)) from code (now (out .entry)) row (now (loops .entry)) depth .loops) ⌝ }
+// The codes of a part from `code` on written as the rows of the block that starts at row `from`. An arm's links are known when its
+// continuation is there, so the arms whose continuation is being written are chained through their own rows: `wait` is 0, or 1 + the
+// row of the innermost. Every turn is one code, so that `left` is never short of them.
+fn lay(src: &[u16], mut code: usize, out: &mut [u16], from: usize, loops: &mut [u16]) -> Laid
+    ensures { λ r. ⌜ (r ≡ runS LIMIT (now (src .entry)) from code (now (out .entry)) 0 (now (loops .entry)) 0 0 .res)
+        × (now (out .exit) ≡ runS LIMIT (now (src .entry)) from code (now (out .entry)) 0 (now (loops .entry)) 0 0 .out)
+        × (now (loops .exit) ≡ runS LIMIT (now (src .entry)) from code (now (out .entry)) 0 (now (loops .entry)) 0 0 .loops) ⌝ }
 {
-    loop {
-        if !in_range(left, code, from, row, depth) {
-            return Laid {
-                code: code,
-                row: row,
-            };
-        }
+    let mut row = 0;
+    let mut depth = 0;
+    let mut wait = 0;
+    let mut left = LIMIT;
+    while in_range(left, code, from, row, depth) {
         left -= 1;
         let word = words::peek(src, code);
         // 0 End, 1 behind the last arm, 2 an arm, 3 Loop, 4 Back, 5 Send, 6 Receive, 7 no code.
         let kind = word % 8;
         match kind {
-            0 | 4 => {
-                put_last(word, out, from, row, loops, depth);
-                return Laid {
-                    code: code + 1,
-                    row: row + 1,
-                };
-            }
-            1 => {
-                return Laid {
-                    code: code + 1,
-                    row: row,
-                };
+            0 | 1 | 4 => {
+                row = put_last(word, out, from, row, loops, depth);
+                code += 1;
+                let end = end_part(src, code, out, from, row, wait, left);
+                depth = end.depth;
+                wait = end.wait;
+                left = end.left;
             }
             2 => {
-                let end = lay(src, code + 1, out, from, row + 1, loops, depth, left);
-                put_arm(word, src, out, from, row, end);
-                code = end.code;
-                row = end.row;
+                open_arm(word, out, from, row, depth, wait);
+                code += 1;
+                row += 1;
+                wait = row;
             }
             3 => {
                 put_loop(out, from, row, loops, depth);
@@ -151,10 +183,7 @@ fn lay(
                 depth += 1;
             }
             7 => {
-                return Laid {
-                    code: code,
-                    row: row,
-                };
+                left = 0;
             }
             _ => {
                 put_action(word, out, from, row);
@@ -162,6 +191,10 @@ fn lay(
                 row += 1;
             }
         }
+    }
+    Laid {
+        code: code,
+        row: row,
     }
 }
 
@@ -196,7 +229,7 @@ pub fn lay_out(
     if LIMIT < rows {
         return code;
     }
-    let end = lay(src, code, out, from, 0, loops, 0, LIMIT);
+    let end = lay(src, code, out, from, loops);
     clear(out, from, end.row, rows);
     end.code
 }

@@ -4,13 +4,14 @@ use mathlib.Core.Bool.{Bool, cond, _&&_}
 use mathlib.Core.List.{List}
 use lib.Dec.{ltb, leb, eqb}
 use lib.ListN.{getD, length, set}
-use Rattle.words.specs.Rows.{putRow}
+use Rattle.words.specs.Rows.{word, putRow}
 use Rattle.parts.specs.Part.{Part}
 use Rattle.parts.specs.Layout.{size}
 use Rattle.parts.specs.mirror.Codes.{codes}
 use Rattle.parts.specs.mirror.Seven.{bySeven}
 use Rattle.parts.specs.mirror.Stands.{Stands}
 use Rattle.layout.specs.declared.Laid.{Laid}
+use Rattle.layout.specs.declared.Resumed.{Resumed}
 
 -- codes, rows and Loops are counted up to this
 abbrev pub LIMIT : ℕ
@@ -36,9 +37,9 @@ pub record Inside (left i from row depth : ℕ) : Type 0 where
 unfoldable pub stepAt : ℕ → List ℕ → ℕ → ℕ → ℕ → ℕ → ℕ
 stepAt left s i from row depth = cond (inside left i from row depth) (cond (eqb (kindOf s i) 6) 5 (kindOf s i)) 7
 
--- of the rows of the Loops around, outermost first, the one that a Back of depth k names
-abbrev pub loopRow : List ℕ → ℕ → ℕ → ℕ
-loopRow loops depth k = cond (ltb k depth) (getD loops (depth - 1 - k) 0) 0
+-- of the rows of the Loops around, outermost first, the one that the Back w names
+abbrev pub loopRow : ℕ → List ℕ → ℕ → ℕ
+loopRow w loops depth = cond (eqb (w % 8) 4 && ltb (w / 8) depth) (getD loops (depth - 1 - w / 8) 0) 0
 
 -- the row, where an arm stands at i
 abbrev pub nextRow : List ℕ → ℕ → ℕ → ℕ
@@ -46,21 +47,34 @@ nextRow s i row = cond (ltb LIMIT row) 0 (cond (eqb (kindOf s i) 2) row 0)
 
 -- ---- the rows of the code w
 
-abbrev pub putArm : ℕ → List ℕ → List ℕ → ℕ → ℕ → ℕ → ℕ → List ℕ
-putArm w s out from row iEnd rowEnd = putRow out (from + row) 2 (w / 8) (row + 1) (nextRow s iEnd rowEnd)
+-- an arm whose continuation comes next: its row keeps the Loops and the waiting arm around it
+abbrev pub openArm : ℕ → List ℕ → ℕ → ℕ → ℕ → ℕ → List ℕ
+openArm w out from row depth wait = putRow out (from + row) 2 (w / 8) depth wait
 
 abbrev pub putLoop : List ℕ → ℕ → ℕ → List ℕ
 putLoop out from row = putRow out (from + row) 3 (row + 1) 0 0
 
-abbrev pub putBack : ℕ → List ℕ → ℕ → ℕ → List ℕ → ℕ → List ℕ
-putBack w out from row loops depth = putRow out (from + row) 4 (loopRow loops depth (w / 8)) 0 0
-
--- an End or a Back
+-- an End or a Back; the mark behind the last arm has no row
 abbrev pub putLast : ℕ → List ℕ → ℕ → ℕ → List ℕ → ℕ → List ℕ
-putLast w out from row loops depth = cond (eqb (w % 8) 4) (putBack w out from row loops depth) (putRow out (from + row) 0 0 0 0)
+putLast w out from row loops depth = cond (eqb (w % 8) 1) out (putRow out (from + row) (w % 8) (loopRow w loops depth) 0 0)
+
+abbrev pub lastRow : ℕ → ℕ → ℕ
+lastRow w row = cond (eqb (w % 8) 1) row (row + 1)
 
 abbrev pub putAction : ℕ → List ℕ → ℕ → ℕ → List ℕ
 putAction w out from row = putRow out (from + row) (w % 8) (w / 8) (row + 1) 0
+
+-- ---- the end of a part; wait: 1 + the row of the arm whose continuation it is, 0 for none
+
+-- that arm with its links
+abbrev pub closeArm : List ℕ → List ℕ → ℕ → ℕ → ℕ → ℕ → List ℕ
+closeArm s out from i row zero = out
+closeArm s out from i row (suc arm) = putRow out (from + arm) 2 (word out (from + arm) 1) (suc arm) (nextRow s i row)
+
+-- what that arm's row kept
+abbrev pub resume : List ℕ → ℕ → ℕ → ℕ → Resumed
+resume out from zero left = record { depth = 0; wait = 0; left = 0 }
+resume out from (suc arm) left = record { depth = word out (from + arm) 2; wait = word out (from + arm) 3; left = left }
 
 -- ---- the whole
 
@@ -73,23 +87,37 @@ pub record Lay : Type 0 where
 abbrev pub stop : ℕ → List ℕ → ℕ → List ℕ → Lay
 stop i out row loops = record { res = record { code = i; row = row }; out = out; loops = loops }
 
--- one call's work at the step k, with the calls inside it as a parameter
-abbrev pub layBody : (ℕ → List ℕ → ℕ → List ℕ → ℕ → Lay) → ℕ → List ℕ → ℕ → ℕ → List ℕ → ℕ → List ℕ → ℕ → Lay
-layBody rec k s from i out row loops depth =
-    let end = rec (i + 1) out (row + 1) loops depth in
+-- the turns after this one
+abbrev pub Turns : Type 0
+Turns = ℕ → List ℕ → ℕ → List ℕ → ℕ → ℕ → Lay
+
+-- what comes behind the end of a part
+abbrev pub endBody : Turns → List ℕ → ℕ → ℕ → List ℕ → ℕ → List ℕ → ℕ → Lay
+endBody rec s from i out row loops zero = stop i out row loops
+endBody rec s from i out row loops (suc arm) =
+    rec i (closeArm s out from i row (suc arm)) row loops (word out (from + arm) 2) (word out (from + arm) 3)
+
+-- one turn at the step k
+abbrev pub turnBody : Turns → ℕ → List ℕ → ℕ → ℕ → List ℕ → ℕ → List ℕ → ℕ → ℕ → Lay
+turnBody rec k s from i out row loops depth wait =
+    let last = endBody rec s from (i + 1) (putLast (getD s i 0) out from row loops depth) (lastRow (getD s i 0) row) loops wait in
     bySeven k
-    (stop (i + 1) (putRow out (from + row) 0 0 0 0) (row + 1) loops)
-    (stop (i + 1) out row loops)
-    (rec (end .res .code) (putArm (getD s i 0) s (end .out) from row (end .res .code) (end .res .row)) (end .res .row) (end .loops) depth)
-    (rec (i + 1) (putLoop out from row) (row + 1) (set loops depth row) (depth + 1))
-    (stop (i + 1) (putBack (getD s i 0) out from row loops depth) (row + 1) loops)
-    (rec (i + 1) (putAction (getD s i 0) out from row) (row + 1) loops depth)
+    last
+    last
+    (rec (i + 1) (openArm (getD s i 0) out from row depth wait) (row + 1) loops depth (row + 1))
+    (rec (i + 1) (putLoop out from row) (row + 1) (set loops depth row) (depth + 1) wait)
+    last
+    (rec (i + 1) (putAction (getD s i 0) out from row) (row + 1) loops depth wait)
     (stop i out row loops)
 
-unfoldable pub layS : ℕ → List ℕ → ℕ → ℕ → List ℕ → ℕ → List ℕ → ℕ → Lay
-layS zero s from i out row loops depth = stop i out row loops
-layS (suc n) s from i out row loops depth =
-    layBody (λ j o r l d. layS n s from j o r l d) (stepAt (suc n) s i from row depth) s from i out row loops depth
+unfoldable pub runS : ℕ → List ℕ → ℕ → ℕ → List ℕ → ℕ → List ℕ → ℕ → ℕ → Lay
+runS zero s from i out row loops depth wait = stop i out row loops
+runS (suc n) s from i out row loops depth wait =
+    turnBody (λ j o r l d w. runS n s from j o r l d w) (stepAt (suc n) s i from row depth) s from i out row loops depth wait
+
+-- the end of a part with n turns left
+abbrev pub endS : ℕ → List ℕ → ℕ → ℕ → List ℕ → ℕ → List ℕ → ℕ → Lay
+endS n s from i out row loops wait = endBody (λ j o r l d w. runS n s from j o r l d w) s from i out row loops wait
 
 -- n rows of zeros from the row first on
 unfoldable pub clearS : List ℕ → ℕ → ℕ → List ℕ
