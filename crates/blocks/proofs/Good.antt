@@ -1,11 +1,12 @@
 -- Laws of rule 12: a row that is followed, and what good tables hold. Assumes nothing.
-use Prim.Native.Nat.{ℕ, zero, suc, _+_, _*_, _<_, _≤_}
-use mathlib.Core.Bool.{Bool, true, false, cond, _&&_, _||_, not, and-true}
+use Prim.Native.Nat.{ℕ, zero, suc, _+_, _-_, _*_, _<_, _≤_}
+use mathlib.Core.Bool.{Bool, true, false, cond, _&&_, _||_, not, and-true, or-true, true≢false}
 use mathlib.Core.List.{List}
-use mathlib.Core.Path.{_≡_, refl, sym, ap}
+use mathlib.Core.Path.{_≡_, refl, sym, _∙_}
 use lib.Dec.{eqb, ltb, leb}
 use lib.ListN.{length}
-use borrow.Author.Tests.{ltb-false, ltb-true, eqb-true, leb-true}
+use native.Mathlib.Omega.{arith}
+use borrow.Author.Tests.{ltb-false, ltb-true, eqb-true, eqb-false, ne-eqb, leb-true, not-true, not-false}
 use Rattle.words.specs.Below.{every}
 pub use Rattle.words.proofs.Below.{and-both as both}
 use Rattle.words.proofs.Below.{or-neither}
@@ -13,10 +14,11 @@ use Rattle.table.specs.Limits.{Limits, base}
 use Rattle.table.specs.Rules.{rolesBroken}
 use Rattle.blocks.specs.Block.{partRowOf, blockRows, isArm, isHead}
 use Rattle.blocks.specs.Tables.{tablesGood, sizesGood}
-use Rattle.blocks.specs.mirror.Rows.{words, said}
+use Rattle.blocks.specs.mirror.Rows.{words, said, rowAt}
 use Rattle.blocks.specs.mirror.Tables.{hasHeadAt, rowHoldsAt, rowGoodAt, sizedRows, goodRows}
 use Rattle.blocks.specs.declared.rows.Row.{Row}
-use Rattle.blocks.proofs.Walk.{row-read, follow-loop, follow-back, follow-stays}
+use Rattle.blocks.proofs.Walk.{row-read, follow-stays}
+use Rattle.blocks.proofs.RowTests.{is-arm}
 use Rattle.blocks.proofs.Mirrored.{blocks-at}
 
 pub roles-in : (roles : ℕ) → rolesBroken base roles ≡ false → (2 ≤ roles) × (roles ≤ 8)
@@ -36,29 +38,40 @@ stands-alone lim ts roles rows start r i (suc (suc (suc (suc (suc zero))))) a b 
 stands-alone lim ts roles rows start r i (suc (suc (suc (suc (suc (suc zero)))))) a b c h g = sym (and-true _)
 stands-alone lim ts roles rows start r i (suc (suc (suc (suc (suc (suc (suc k))))))) a b c h g = refl
 
--- w is what was read of the row; rows is one more than m
-module _ (ts : List ℕ) (roles rows start role row : ℕ) {m : ℕ} {w : Row} (e : rows ≡ suc m) (read : w ≡ words ts (start + row)) where
-  pub good-loop : w .kind ≡ 3
-      → (rowHoldsAt base ts roles rows start role row (said w) && hasHeadAt m ts start (w .first)) ≡ rowGoodAt base ts roles rows start role row
-  unfolding rowGoodAt
-  good-loop k = rw (follow-loop ts start e refl read k, row-read ts start {i = row} refl read, k)
+-- w is what was read of the row
+module _ (ts : List ℕ) (start row : ℕ) {w : Row} (read : w ≡ words ts (start + row)) where
+  -- a Loop or a Back is no Arm
+  pub no-arm : (eqb (w .kind) 3 || eqb (w .kind) 4) ≡ true → isArm (rowAt ts start row) ≡ false
+  no-arm e =
+      rw (row-read ts start {i = row} refl read, is-arm (w .first) (w .second) (w .third) (w .kind))
+      (ne-eqb (w .kind) 2 (λ q. true≢false (sym (rw q at e))))
 
-  pub good-back : w .kind ≡ 4
-      → (rowHoldsAt base ts roles rows start role row (said w) && hasHeadAt m ts start (w .first)) ≡ rowGoodAt base ts roles rows start role row
-  unfolding rowGoodAt
-  good-back k = rw (follow-back ts start e refl read k, row-read ts start {i = row} refl read, k)
+  -- t is whether the row holds
+  module _ (roles rows role : ℕ) {t : Bool} (holds : t ≡ rowHoldsAt base ts roles rows start role row (said w)) where
+    pub good-not : not t ≡ true → rowGoodAt base ts roles rows start role row ≡ false
+    unfolding rowGoodAt
+    good-not e = rw (row-read ts start {i = row} refl read, ← holds, not-true t e)
 
-  pub good-alone : (w .kind ≡ 3 → ⊥) → (w .kind ≡ 4 → ⊥)
-      → rowHoldsAt base ts roles rows start role row (said w) ≡ rowGoodAt base ts roles rows start role row
-  unfolding rowGoodAt
-  good-alone h g =
-      rw (follow-stays ts start e refl read h g, row-read ts start {i = row} refl read)
-      (stands-alone base ts roles rows start role row (w .kind) (w .first) (w .second) (w .third) h g)
+    pub good-headed : not t ≡ false → hasHeadAt rows ts start row ≡ true → rowGoodAt base ts roles rows start role row ≡ true
+    unfolding rowGoodAt
+    good-headed e h = rw (h, row-read ts start {i = row} refl read, ← holds, not-false t e) (or-true (isArm (said w)))
 
--- a block by where it starts
-pub block-start : (ts : List ℕ) (roles rows p start : ℕ) → start ≡ p * rows
-    → every (λ i. rowGoodAt base ts roles rows start p i) rows ≡ every (λ i. rowGoodAt base ts roles rows (p * rows) p i) rows
-block-start ts roles rows p start e = ap (λ (s : ℕ). every (λ i. rowGoodAt base ts roles rows s p i) rows) e
+    pub good-alone : not t ≡ false → row < rows → (eqb (w .kind) 3 || eqb (w .kind) 4) ≡ false → rowGoodAt base ts roles rows start role row ≡ true
+    unfolding rowGoodAt
+    good-alone e l f =
+        let m : rows ≡ suc (rows - 1) = omega arith in
+        let (g, h) = or-neither (eqb (w .kind) 3) (eqb (w .kind) 4) f in
+        let (no-loop, no-back) : (w .kind ≡ 3 → ⊥) × (w .kind ≡ 4 → ⊥) = (eqb-false (w .kind) 3 g, eqb-false (w .kind) 4 h) in
+        rw (follow-stays ts start m refl read no-loop no-back, row-read ts start {i = row} refl read)
+        (sym (stands-alone base ts roles rows start role row (w .kind) (w .first) (w .second) (w .third) no-loop no-back) ∙ sym holds ∙ not-false t e)
+
+-- a block by where it starts: t is whether it is good
+module _ (ts : List ℕ) (roles rows p start : ℕ) {t : Bool} (at : start ≡ p * rows) (good : t ≡ every (λ i. rowGoodAt base ts roles rows start p i) rows) where
+  pub block-not : not t ≡ true → every (λ i. rowGoodAt base ts roles rows (p * rows) p i) rows ≡ false
+  block-not e = rw (← at, ← good) (not-true t e)
+
+  pub block-good : not t ≡ false → every (λ i. rowGoodAt base ts roles rows (p * rows) p i) rows ≡ true
+  block-good e = rw (← at, ← good) (not-false t e)
 
 -- what the sizes say
 pub record Sized (ts : List ℕ) (roles rows : ℕ) : Type 0 where

@@ -1,5 +1,6 @@
 pub mod Walk
 pub mod RowTests
 pub mod Mirrored
+pub mod Far
 pub mod Good
 pub mod Sound

@@ -1,15 +1,17 @@
 // Rule 12: tables that are well formed for a step.
+use crate::heads;
 use crate::rows;
 use crate::rows::Row;
 use table::Table;
 ghost use mathlib.Core.Path.{_≡_};
-ghost use mathlib.Core.Bool.{true};
+ghost use mathlib.Core.Bool.{true, false};
 ghost use Prim.Native.Nat.{_*_, _<_, _≤_};
 ghost use Rattle.words.specs.Below.{every};
 ghost use Rattle.table.specs.Limits.{base};
 ghost use Rattle.blocks.specs.Tables.{isPeer};
 ghost use Rattle.blocks.specs.mirror.Rows.{said};
-ghost use Rattle.blocks.specs.mirror.Tables.{toArmAt, toOtherAt, nextAt, toLoopAt, rowHoldsAt, hasHeadAt, rowGoodAt, sizedRows, goodRows};
+ghost use Rattle.blocks.specs.mirror.Tables.{toArmAt, toOtherAt, nextAt, toLoopAt, rowHoldsAt, rowGoodAt, sizedRows, goodRows};
+ghost use Rattle.blocks.specs.mirror.Heads.{Noted};
 
 // A link from a row to an Arm of a higher number, inside the block.
 fn to_arm(tables: &[u16], start: usize, rows: usize, row: usize, link: u16) -> bool
@@ -98,43 +100,47 @@ fn row_holds(
     }
 }
 
-// Following that often from a row ends at a head.
-fn has_head(tables: &[u16], start: usize, left: usize, row: u16) -> bool
-    ensures { λ r. ⌜ r ≡ hasHeadAt left (now (tables .entry)) start row ⌝ }
-{
-    let at = rows::head(tables, start, left, row);
-    rows::stands(rows::row_at(tables, start, words::wide(at)))
-}
-
 // A row is well formed, and has a head if it is no Arm. Only a Loop or a Back is followed: a row of another kind is its own head.
-// So a block costs at most its Loop and Back rows times the longest run of them: a step or two for each Loop in ordinary tables.
 fn row_good(
     tables: &[u16],
+    noted: &mut [u16],
     roles: usize,
     rows: usize,
     start: usize,
     role: usize,
     row: usize,
 ) -> bool
-    requires { ⌜ 0 < rows ⌝ }
-    ensures { λ r. ⌜ r ≡ rowGoodAt base (now (tables .entry)) roles rows start role row ⌝ }
+    requires { ⌜ (rows ≤ 256) × (start ≤ 2048) × (row < rows) × (Noted (now tables) start rows (now noted)) ⌝ }
+    ensures { λ r. ⌜ (r ≡ true → rowGoodAt base (now (tables .entry)) roles rows start role row ≡ true)
+        × (r ≡ false → every (λ i. rowGoodAt base (now (tables .entry)) roles rows start role i) rows ≡ false)
+        × (Noted (now (tables .entry)) start rows (now (noted .exit))) ⌝ }
 {
     let part = rows::row_at(tables, start, row);
-    let holds = row_holds(tables, roles, rows, start, role, row, part);
-    let kind = part.kind;
-    match kind {
-        Row::LOOP => holds & has_head(tables, start, rows - 1, part.first),
-        Row::BACK => holds & has_head(tables, start, rows - 1, part.first),
-        _ => holds,
+    if !row_holds(tables, roles, rows, start, role, row, part) {
+        return false;
+    }
+    if (part.kind == Row::LOOP) | (part.kind == Row::BACK) {
+        heads::has_head(tables, noted, rows, start, words::wide(part.first))
+    } else {
+        true
     }
 }
 
-fn block_good(tables: &[u16], roles: usize, rows: usize, start: usize, role: usize) -> bool
-    ensures { λ r. ⌜ r ≡ every (λ i. rowGoodAt base (now (tables .entry)) roles rows start role i) rows ⌝ }
+fn block_good(
+    tables: &[u16],
+    noted: &mut [u16],
+    roles: usize,
+    rows: usize,
+    start: usize,
+    role: usize,
+) -> bool
+    requires { ⌜ (rows ≤ 256) × (start ≤ 2048) × (Noted (now tables) start rows (now noted)) ⌝ }
+    ensures { λ r. ⌜ (r ≡ every (λ i. rowGoodAt base (now (tables .entry)) roles rows start role i) rows)
+        × (Noted (now (tables .entry)) start rows (now (noted .exit))) ⌝ }
 {
     let mut row = 0;
     while row < rows {
-        if !row_good(tables, roles, rows, start, role, row) {
+        if !row_good(tables, noted, roles, rows, start, role, row) {
             return false;
         }
         row += 1;
@@ -142,14 +148,16 @@ fn block_good(tables: &[u16], roles: usize, rows: usize, start: usize, role: usi
     true
 }
 
+// The blocks share one array of notes: what an earlier block left there is at most the next block's `start`.
 fn blocks_good(tables: &[u16], roles: usize, rows: usize) -> bool
     requires { ⌜ (roles ≤ 8) × (rows ≤ 256) ⌝ }
     ensures { λ r. ⌜ r ≡ every (λ p. every (λ i. rowGoodAt base (now (tables .entry)) roles rows (p * rows) p i) rows) roles ⌝ }
 {
+    let mut noted = [0u16; Table::ROWS];
     let mut role = 0;
     let mut start = 0;
     while role < roles {
-        if !block_good(tables, roles, rows, start, role) {
+        if !block_good(tables, &mut noted, roles, rows, start, role) {
             return false;
         }
         start += rows;
