@@ -13,7 +13,7 @@ use Rattle.table.specs.Rows.{row, isLoop}
 use Rattle.table.specs.Above.{namer, above, loops}
 use Rattle.table.specs.mirror.Names.{nearLoops, Rising}
 use Rattle.rules.specs.mirror.Names.{places, Around}
-use Rattle.rules.proofs.Names.{zeros}
+use Rattle.words.proofs.Zeros.{zeros}
 use Rattle.table.proofs.Walk.{over-zero, above-more, loops-more, near-more}
 
 -- the places of the first n rows hold what f says of them, where each row is named by a lower one; no place holds more than n
@@ -25,8 +25,8 @@ pub record Column (t : List ℕ) (f : ℕ → ℕ) (l : List ℕ) (n : ℕ) : Ty
 column-start : (t : List ℕ) (f : ℕ → ℕ) → f 0 ≡ 0 → Column t f (replicate places 0) 1
 column-start t f e = record {
   long = length-replicate {A = ℕ} places 0;
-  few = λ i. rw (zeros i) (omega arith);
-  has = λ up i h l. let z : i ≡ 0 = omega arith in zeros i ∙ (sym e ∙ ap f (sym z));
+  few = λ i. rw (zeros places i) (omega arith);
+  has = λ up i h l. let z : i ≡ 0 = omega arith in zeros places i ∙ (sym e ∙ ap f (sym z));
 }
 
 column-step : (t : List ℕ) (f : ℕ → ℕ) (l : List ℕ) (n x : ℕ) → n < places → x ≤ n + 1 → (Rising t → x ≡ f n) → Column t f l n

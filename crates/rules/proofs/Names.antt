@@ -13,6 +13,7 @@ use borrow.Author.Tests.{ltb-false, lt-ltb, le-ltb, eq-eqb, ne-eqb}
 use Rattle.words.specs.Rows.{rowsOf}
 use Rattle.words.specs.Below.{lowest, sum, one}
 use Rattle.words.proofs.Below.{lowest-le}
+use Rattle.words.proofs.Zeros.{zeros}
 use Rattle.table.specs.Limits.{base}
 use Rattle.table.specs.Rows.{row, links}
 use Rattle.table.specs.Above.{times, timesNamed, namer}
@@ -84,14 +85,6 @@ at-end : (b : Bool) (k n : ℕ) → ltb k n ≡ b → k ≤ n → cond b k n ≡
 at-end true k n e h = refl
 at-end false k n e h = let l = ltb-false k n e in omega arith
 
--- a list that holds nothing yet
-pub zeros : (i : ℕ) → getD (replicate {A = ℕ} places 0) i 0 ≡ 0
-zeros i = go (decLt i places)
-  where
-    go : Dec (i < places) → getD (replicate {A = ℕ} places 0) i 0 ≡ 0
-    go (yes q) = getD-replicate {A = ℕ} places i 0 0 q
-    go (no q) = List·getD-eq-default (replicate {A = ℕ} places 0) 0 {n = i} (rw (length-replicate {A = ℕ} places 0) (omega arith))
-
 pub filling-start : (t : List ℕ) → rowsOf t ≤ base .rows → (n : ℕ) → n ≡ rowsOf t → Filling t (replicate places n) (replicate places 0) (rowsOf t)
 filling-start t h n e = record {
   by-length = length-replicate places n;
@@ -100,8 +93,8 @@ filling-start t h n e = record {
       let q : i < places = omega arith in
       let k = lowest (λ q. ltb 0 (times i (links (row t q)))) (rowsOf t) in
       rw (getD-replicate places i n 0 q, e) (at-end (ltb k (rowsOf t)) k (rowsOf t) refl (lowest-le _ (rowsOf t)));
-  all = λ i l m. rw (zeros i) (omega arith);
-  few = λ i. rw (zeros i) (omega arith);
+  all = λ i l m. rw (zeros places i) (omega arith);
+  few = λ i. rw (zeros places i) (omega arith);
 }
 
 ones : (a b : Bool) → ltb 0 (one a + one b) ≡ (a || b)

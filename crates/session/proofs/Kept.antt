@@ -5,12 +5,13 @@ use mathlib.Core.List.{List, []}
 use mathlib.Core.Logic.{_⊎_, inl, inr, ⊎-elim}
 use mathlib.Core.Path.{_≡_, refl, sym, _∙_, ap}
 use lib.Dec.{eqb, ltb, leb}
-use lib.ListN.{length, getD, set, take, drop, replicate, length-set, List·getD-append}
+use lib.ListN.{length, getD, set, take, drop, length-set, List·getD-append}
 use lib.Seq.{sets, length-sets, getD-set-same, getD-set-other, getD-at}
 use native.Mathlib.Omega.{arith}
 use borrow.Author.Tests.{lt-ltb, le-ltb, ltb-true, ltb-false, leb-true, le-leb, eqb-true, eqb-false}
 use Rattle.words.specs.Below.{every}
 use Rattle.words.proofs.Below.{every-all, every-at}
+use Rattle.words.proofs.Zeros.{zeros}
 use Rattle.table.specs.Limits.{base}
 use Rattle.blocks.specs.Block.{partRow, blockRows, isHead, PartRow, End, Arm, Loop, Back, Send, Receive, Other, isArm}
 use Rattle.blocks.specs.Head.{head}
@@ -307,11 +308,6 @@ module _ (ts : List ℕ) (roles p q : ℕ) (s : Session) (shaped : Shaped s) whe
 
 -- ---- fresh
 
-zeros-at : (n i : ℕ) → getD (replicate {A = ℕ} n 0) i 0 ≡ 0
-zeros-at zero i = refl
-zeros-at (suc n) zero = refl
-zeros-at (suc n) (suc i) = zeros-at n i
-
 pub first-at : (ts : List ℕ) (roles n r : ℕ) → r < n → getD (firstHeads ts roles n) r 0 ≡ cond (ltb r roles) (head ts roles r 0) 0
 unfolding firstHeads
 first-at ts roles zero r l = absurd (omega arith)
@@ -356,10 +352,10 @@ fresh-keeps ts roles e = decide (tablesGood base ts roles) refl e
         (λ r l. heads-good good r l)
         (λ p q lp lq. queue-from roles (record { heads = firstHeads ts roles 8; counts = nothing base .counts; labels = nothing base .labels; payloads = nothing base .payloads }) p q
         (record {
-          few = rw (zeros-at 64 (p * 8 + q)) (omega arith);
-          there = rw (zeros-at 64 (p * 8 + q)) (or-true (arePair roles p q));
-          used = λ k l m. rw (zeros-at 256 ((p * 8 + q) * 4 + k)) (omega arith);
-          free = λ k l m. (zeros-at 256 ((p * 8 + q) * 4 + k), zeros-at 256 ((p * 8 + q) * 4 + k));
+          few = rw (zeros 64 (p * 8 + q)) (omega arith);
+          there = rw (zeros 64 (p * 8 + q)) (or-true (arePair roles p q));
+          used = λ k l m. rw (zeros 256 ((p * 8 + q) * 4 + k)) (omega arith);
+          free = λ k l m. (zeros 256 ((p * 8 + q) * 4 + k), zeros 256 ((p * 8 + q) * 4 + k));
         }))
     decide false bad z = absurd (let n : 12 ≡ 0 = z in omega arith)
 

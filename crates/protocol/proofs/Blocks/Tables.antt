@@ -13,6 +13,7 @@ use lib.Seq.{getD-append-add}
 use borrow.Author.Tests.{lt-ltb, le-leb, eq-eqb}
 use Rattle.words.specs.Rows.{word, rowsOf}
 use Rattle.words.proofs.Below.{every-all}
+use Rattle.words.proofs.Zeros.{zeros}
 use Rattle.table.specs.Kept.{Inside, Static, Good, Ranged, rowsIn}
 use Rattle.table.specs.Limits.{Limits}
 use Rattle.table.specs.Tree.{treeOf}
@@ -43,11 +44,6 @@ pub record TreeKept (lim : Limits) (t : List ℕ) (roles : ℕ) : Type 0 where
   pub fits : rowsIn {A = ℕ} (treeOf t) ≤ rowsOf t
 
 -- ---- words of a block
-
-pub zeros : (m j : ℕ) → _≡_ {A = ℕ} (getD (replicate m 0) j 0) 0
-zeros zero j = refl
-zeros (suc m) zero = refl
-zeros (suc m) (suc j) = zeros m j
 
 padding-word : (n j : ℕ) (P : Part) → size P * 4 ≤ j → getD (block n P) j 0 ≡ 0
 unfolding block

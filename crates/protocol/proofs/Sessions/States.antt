@@ -22,7 +22,7 @@ use Rattle.session.specs.Calls.{firstHeads}
 use Rattle.session.specs.declared.Session.{Session}
 use Rattle.session.proofs.First.{length-first}
 use Rattle.session.proofs.Kept.{first-at}
-use Rattle.protocol.proofs.Blocks.Tables.{zeros}
+use Rattle.words.proofs.Zeros.{zeros}
 use Rattle.protocol.proofs.Sessions.Cells.{Slots, pair-in, pair-other, set-slot, set-slot-other, set-other, first-taken, last-freed, others-kept}
 
 -- p′ and q′ are p and q
