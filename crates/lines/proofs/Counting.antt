@@ -62,7 +62,7 @@ unfolding parts
 few-parts [] = omega arith
 few-parts (b ∷ bs) = fewer (eqb b 32) (part bs) (parts bs) (length bs) (few-parts bs)
 
-few-numbers : (line : List ℕ) → length (numbersOf line) ≤ length line
+pub few-numbers : (line : List ℕ) → length (numbersOf line) ≤ length line
 unfolding numbersOf
 few-numbers [] = omega arith
 few-numbers (letter ∷ bs) = few-behind (isEmpty (part bs)) (values (parts bs)) (length bs) (omega (arith, few-values (parts bs), few-parts bs))

@@ -7,10 +7,10 @@ use Rattle.bench.proofs.main.Statement.{statement}
 use Rattle.bench.proofs.main.Tie as tie
 
 abbrev Inv-loop : tie.InvT-loop
-Inv-loop input₀ line₀ numbers₀ tables₀ run₀ turns₀ input line numbers tables run turns = 0 ≤ turns
+Inv-loop input₀ line₀ numbers₀ tables₀ reading₀ turns₀ input line numbers tables reading turns = 0 ≤ turns
 
 abbrev μ-loop : tie.MeasureT-loop
-μ-loop input₀ line₀ numbers₀ tables₀ run₀ turns₀ input line numbers tables run turns = turns
+μ-loop input₀ line₀ numbers₀ tables₀ reading₀ turns₀ input line numbers tables reading turns = turns
 
 large-buffer-requires : tie.Need-large-buffer-requires Inv-loop μ-loop
 large-buffer-requires c κs = search needs

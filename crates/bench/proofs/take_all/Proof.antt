@@ -5,10 +5,10 @@ use Rattle.bench.proofs.take_all.Statement.{statement}
 use Rattle.bench.proofs.take_all.Tie as tie
 
 abbrev Inv-loop : tie.InvT-loop
-Inv-loop input count line₀ numbers₀ tables₀ end run₀ i₀ line numbers tables run i = (i ≤ end) × (end ≤ 65536)
+Inv-loop input count line₀ numbers₀ tables₀ end run₀ length₀ i₀ line numbers tables run length i = (i ≤ end) × (end ≤ 65536)
 
 abbrev μ-loop : tie.MeasureT-loop
-μ-loop input count line₀ numbers₀ tables₀ end run₀ i₀ line numbers tables run i = end - i
+μ-loop input count line₀ numbers₀ tables₀ end run₀ length₀ i₀ line numbers tables run length i = end - i
 
 least-requires : tie.Need-least-requires Inv-loop μ-loop
 least-requires c κs = search needs
@@ -16,11 +16,17 @@ least-requires c κs = search needs
 loop-holds : tie.Need-loop-holds Inv-loop μ-loop
 loop-holds c = search needs
 
-element-copy-out-take : tie.Need-element-copy-out-take Inv-loop μ-loop
-element-copy-out-take c = search needs
+element-copy-out-byte : tie.Need-element-copy-out-byte Inv-loop μ-loop
+element-copy-out-byte c = search needs
 
-take-requires : tie.Need-take-requires Inv-loop μ-loop
-take-requires c κs = search needs
+first-requires : tie.Need-first-requires Inv-loop μ-loop
+first-requires c κs = search needs
+
+answer-requires : tie.Need-answer-requires Inv-loop μ-loop
+answer-requires c κs = search needs
+
+lengthen-requires : tie.Need-lengthen-requires Inv-loop μ-loop
+lengthen-requires c κs = search needs
 
 add-i : tie.Need-add-i Inv-loop μ-loop
 add-i c = search needs
@@ -42,8 +48,10 @@ take-all-spec =
     μ-loop
     least-requires
     loop-holds
-    element-copy-out-take
-    take-requires
+    element-copy-out-byte
+    first-requires
+    answer-requires
+    lengthen-requires
     add-i
     loop-less
     loop-again

@@ -1,0 +1,49 @@
+-- `orders::taken` meets its contract. Assumes nothing.
+use mathlib.Core.Path.{refl}
+use Rattle.orders.proofs.Reading.{not-line, a-line, numbers-read}
+use borrow.Author.Needs.{needs}
+use Rattle.orders.proofs.taken.Statement.{statement}
+use Rattle.orders.proofs.taken.Tie as tie
+
+numbers-requires : tie.Need-numbers-requires
+numbers-requires c κs = search needs
+
+enum-told : tie.Need-enum-told
+enum-told c = search needs
+
+enum-known-count : tie.Need-enum-known-count
+enum-known-count c = search needs
+
+letter-requires : tie.Need-letter-requires
+letter-requires c κs = search needs
+
+same-length : tie.Need-same-length
+same-length c = search needs
+
+returns : tie.Need-returns
+returns c =
+    let start = c .before .before .before .before .before .before .before .before in
+    rw (not-line (start .args .line .now) (start .args .numbers .now) (start .pre) _ (c .before .before .before .before .numbers .ensures .0) (c .enum-told .given .1)) (refl, refl)
+
+same-length-2 : tie.Need-same-length-2
+same-length-2 c = search needs
+
+returns-2 : tie.Need-returns-2
+returns-2 c =
+    let start = c .before .before .before .before .before .before .before .before .before .before in
+    let ends = c .before .before .before .before .before .before .numbers .ensures in
+    rw (a-line (start .args .line .now) (start .args .numbers .now) (start .pre) _ _ (ends .0) (c .before .before .count .given .1))
+    (c .letter .ensures, numbers-read (start .args .line .now) (start .args .numbers .now) (start .pre) _ _ (ends .0) (c .before .before .count .given .1) _ (ends .1))
+
+pub taken-spec : {M : Type 1} → statement M
+taken-spec =
+    tie.close
+    (tie.spec
+    numbers-requires
+    enum-told
+    enum-known-count
+    letter-requires
+    same-length
+    returns
+    same-length-2
+    returns-2)
