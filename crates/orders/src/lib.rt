@@ -65,14 +65,6 @@ fn order(letter: u8, run: Run, numbers: &[u32], tables: &mut [u16]) -> Said
     calls::call(letter, run, numbers, tables)
 }
 
-fn obey(run: Run, line: &[u8], numbers: &mut [u32], tables: &mut [u16]) -> Said
-    requires { ⌜ (length (now tables) ≡ 65536) × (length (now numbers) ≡ 65536) ⌝ }
-    ensures { λ r. ⌜ Says r (now (tables .exit)) (replyTo base (keeps run (now (tables .entry))) (now (line .entry))) ⌝ }
-{
-    let given = taken(line, numbers);
-    order(given.letter, run, read::upto(numbers, given.count), tables)
-}
-
 // The answer to the line is the text's first bytes; a malformed line is answered `?` and changes nothing.
 pub fn answer(
     run: Run,
@@ -83,6 +75,7 @@ pub fn answer(
 ) -> Answered
     ensures { λ r. ⌜ writes r (now (tables .exit)) (now (text .exit)) ≡ answerOf base (keeps run (now (tables .entry))) (now (line .entry)) ⌝ }
 {
-    let said = obey(run, line, numbers, tables);
+    let given = taken(line, numbers);
+    let said = order(given.letter, run, read::upto(numbers, given.count), tables);
     shown::show(said, tables, text)
 }

@@ -1,19 +1,33 @@
 -- `orders::answer` meets its contract. Assumes nothing.
 use mathlib.Core.Path.{_∙_, ap}
-use Rattle.orders.specs.Lines.{written, answerOf}
+use native.Mathlib.Omega.{arith}
+use lib.ListN.{length-take}
 use borrow.Author.Needs.{needs}
+use Rattle.orders.specs.Lines.{written, answerOf}
+use Rattle.orders.proofs.Reading.{the-order}
+use Rattle.orders.proofs.Replies.{told-as}
 use Rattle.orders.proofs.answer.Statement.{statement}
 use Rattle.orders.proofs.answer.Tie as tie
 
-obey-requires : tie.Need-obey-requires
-obey-requires c κs = search needs
+taken-requires : tie.Need-taken-requires
+taken-requires c κs = search needs
+
+upto-requires : tie.Need-upto-requires
+upto-requires c κs = search needs
+
+order-requires : tie.Need-order-requires
+order-requires c κs = (search needs, rw (c .before .upto .ensures, length-take) (omega arith))
 
 show-requires : tie.Need-show-requires
 show-requires c κs = search needs
 
 returns : tie.Need-returns
 unfolding answerOf
-returns c = c .show .ensures ∙ ap written (c .before .before .before .before .obey .ensures .reply)
+returns c =
+    let taken = c .before .before .before .before .before .before .before .before .before .taken .ensures in
+    let said = told-as (the-order _ _ _ _ (taken .0) (c .before .before .before .before .before .before .upto .ensures ∙ taken .1)) (c .before .before .before .before .order .ensures) in
+    c .show .ensures ∙ ap written (said .reply)
 
 pub answer-spec : {M : Type 1} → statement M
-answer-spec = tie.close (tie.spec obey-requires show-requires returns)
+answer-spec =
+    tie.close (tie.spec taken-requires upto-requires order-requires show-requires returns)
