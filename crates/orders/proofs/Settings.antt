@@ -1,7 +1,7 @@
 -- What the code says of orders that set tables, read as a reply. Assumes nothing.
 use Prim.Native.Nat.{ℕ, _*_, _≤_, _<_}
 use mathlib.Core.Bool.{Bool, true, false, cond}
-use mathlib.Core.List.{List, [], _∷_, _++_}
+use mathlib.Core.List.{List, [], _∷_}
 use mathlib.Core.Path.{_≡_, refl, sym, _∙_, ap}
 use native.Mathlib.Omega.{arith}
 use lib.Dec.{leb, eqb}
@@ -12,12 +12,12 @@ use Rattle.table.specs.Limits.{base}
 use Rattle.table.specs.declared.Verdict.{Verdict}
 use Rattle.opening.specs.Opening.{openOf, blocks}
 use Rattle.session.specs.Calls.{freshOf}
-use Rattle.lines.specs.Over.{over, allBelow, fits, narrowed}
-use Rattle.orders.specs.Orders.{Kept, Reply, number, malformed, opened, tabled, openOrder, tableOrder}
+use Rattle.lines.specs.Over.{allBelow, fits, narrowed}
+use Rattle.orders.specs.Orders.{Kept, number, malformed, opened, tabled, openOrder, tableOrder}
 use Rattle.orders.specs.Lines.{keeps}
 use Rattle.orders.specs.declared.run.Run.{Run}
 use Rattle.orders.specs.declared.run.Said.{Said}
-use Rattle.orders.specs.mirror.Said.{says, Says, saidNothing, saidOver}
+use Rattle.orders.specs.mirror.Said.{Says, saidNothing, saidOver}
 use Rattle.orders.proofs.Lists.{over-front, narrowed-is, fits-below}
 use Rattle.orders.proofs.Openings.{few}
 use Rattle.orders.proofs.Replies.{told, told-nothing}

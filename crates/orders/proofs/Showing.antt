@@ -2,10 +2,10 @@
 use Prim.Native.Nat.{ℕ, zero, suc, _+_, _-_, _*_, _/_, _%_, _≤_, _<_, min}
 use mathlib.Core.Bool.{Bool, true, false, cond}
 use mathlib.Core.List.{List, [], _∷_, _++_}
-use mathlib.Core.Path.{_≡_, refl, sym, _∙_, ap}
+use mathlib.Core.Path.{_≡_, refl, _∙_}
 use native.Mathlib.Omega.{arith}
 use lib.Dec.{ltb}
-use lib.ListN.{length, take, drop, set, length-take, length-append}
+use lib.ListN.{length, take, drop, set, length-append}
 use lib.Seq.{take-all, take-at, take-append-le, length-take-le}
 use Rattle.lines.specs.Over.{over, behind}
 use Rattle.lines.specs.Text.{digitsOf, decimal, textOf}
