@@ -2,7 +2,7 @@
 use Prim.Native.Nat.{ℕ, zero, suc, _+_, _-_, _*_, _/_, _%_, _≤_, _<_, min}
 use mathlib.Core.Bool.{Bool, true, false, cond}
 use mathlib.Core.List.{List, [], _∷_, _++_}
-use mathlib.Core.Path.{_≡_, refl, _∙_}
+use mathlib.Core.Path.{_≡_, refl, sym, _∙_, ap}
 use native.Mathlib.Omega.{arith}
 use lib.Dec.{ltb}
 use lib.ListN.{length, take, drop, set, length-append}
@@ -70,11 +70,11 @@ worded-some [] l = absurd (omega arith)
 worded-some (n ∷ ns) l = refl
 
 pub text-put : (ns old out : List ℕ) (r : ℕ) → 0 < length ns → length ns * 11 ≤ length old
-    → r ≡ min (length (textOf ns)) (length old) → out ≡ over 0 (textOf ns) old → take r out ≡ worded ns
+    → r ≡ min (length (textOf ns)) (length old) → out ≡ over 0 (textOf ns) old → (take r out ≡ worded ns) × (r ≡ length (worded ns))
 text-put ns old out r some room e f =
     let all : length (textOf ns) ≤ length old = omega (arith, text-long ns) in
     let long : r ≡ length (textOf ns) = omega arith in
-    rw (long, f, worded-some ns some) (over-front (textOf ns) old all)
+    let is = worded-some ns some in (rw (long, f, is) (over-front (textOf ns) old all), long ∙ sym (ap length is))
 
 -- the same text
 pub same-text : (k : Kept) {s t : List ℕ} → s ≡ t → _≡_ {A = Written} (record { text = s; kept = k }) (record { text = t; kept = k })

@@ -73,7 +73,8 @@ pub fn answer(
     tables: &mut Words,
     text: &mut Text,
 ) -> Answered
-    ensures { λ r. ⌜ writes r (now (tables .exit)) (now (text .exit)) ≡ answerOf base (keeps run (now (tables .entry))) (now (line .entry)) ⌝ }
+    ensures { λ r. ⌜ (writes r (now (tables .exit)) (now (text .exit)) ≡ answerOf base (keeps run (now (tables .entry))) (now (line .entry)))
+        × (r .length ≡ length (answerOf base (keeps run (now (tables .entry))) (now (line .entry)) .text)) ⌝ }
 {
     let given = taken(line, numbers);
     let said = order(given.letter, run, read::upto(numbers, given.count), tables);

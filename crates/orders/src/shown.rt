@@ -15,7 +15,7 @@ ghost use Rattle.orders.specs.mirror.Said.{says};
 // `?` and a newline.
 fn ask(text: &mut [u8]) -> usize
     requires { ⌜ 2 ≤ length (now text) ⌝ }
-    ensures { λ r. ⌜ take r (now (text .exit)) ≡ 63 ∷ 10 ∷ [] ⌝ }
+    ensures { λ r. ⌜ (take r (now (text .exit)) ≡ 63 ∷ 10 ∷ []) × (r ≡ 2) ⌝ }
 {
     text[0] = b'?';
     text[1] = b'\n';
@@ -34,7 +34,7 @@ fn put(told: Told, count: usize, words: &[u16], answer: &mut [u32]) -> usize
 // These numbers; `?` for none.
 fn write(numbers: &[u32], text: &mut [u8]) -> usize
     requires { ⌜ (length (now numbers) ≤ 8201) × (length (now text) ≡ 90211) ⌝ }
-    ensures { λ r. ⌜ take r (now (text .exit)) ≡ worded (now (numbers .entry)) ⌝ }
+    ensures { λ r. ⌜ (take r (now (text .exit)) ≡ worded (now (numbers .entry))) × (r ≡ length (worded (now (numbers .entry)))) ⌝ }
 {
     if numbers.len() == 0 {
         return ask(text);
@@ -44,7 +44,8 @@ fn write(numbers: &[u32], text: &mut [u8]) -> usize
 
 fn write_all(told: Told, count: usize, words: &[u16], text: &mut [u8]) -> usize
     requires { ⌜ (count ≤ 9) × (length (now words) ≤ 8192) × (length (now text) ≡ 90211) ⌝ }
-    ensures { λ r. ⌜ take r (now (text .exit)) ≡ worded (take count told ++ now (words .entry)) ⌝ }
+    ensures { λ r. ⌜ (take r (now (text .exit)) ≡ worded (take count told ++ now (words .entry)))
+        × (r ≡ length (worded (take count told ++ now (words .entry)))) ⌝ }
 {
     let mut answer = [0u32; ANSWER];
     let end = put(told, count, words, &mut answer);
@@ -54,7 +55,8 @@ fn write_all(told: Told, count: usize, words: &[u16], text: &mut [u8]) -> usize
 // The answer goes to the start of `text`.
 pub fn show(said: Said, tables: &[u16], text: &mut [u8]) -> Answered
     requires { ⌜ (said .count ≤ 9) × (said .shown ≤ 8192) × (length (now text) ≡ 90211) ⌝ }
-    ensures { λ r. ⌜ writes r (now (tables .entry)) (now (text .exit)) ≡ written (says said (now (tables .entry))) ⌝ }
+    ensures { λ r. ⌜ (writes r (now (tables .entry)) (now (text .exit)) ≡ written (says said (now (tables .entry))))
+        × (r .length ≡ length (written (says said (now (tables .entry))) .text)) ⌝ }
 {
     let told = said.told;
     let length = write_all(told, said.count, read::first(tables, said.shown), text);

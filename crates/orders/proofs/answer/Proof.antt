@@ -1,9 +1,10 @@
 -- `orders::answer` meets its contract. Assumes nothing.
 use mathlib.Core.Path.{_∙_, ap}
 use native.Mathlib.Omega.{arith}
-use lib.ListN.{length-take}
+use lib.ListN.{length, length-take}
 use borrow.Author.Needs.{needs}
-use Rattle.orders.specs.Lines.{written, answerOf}
+use Rattle.orders.specs.Orders.{Reply}
+use Rattle.orders.specs.Lines.{worded, written, answerOf}
 use Rattle.orders.proofs.Reading.{the-order}
 use Rattle.orders.proofs.Replies.{told-as}
 use Rattle.orders.proofs.answer.Statement.{statement}
@@ -26,7 +27,8 @@ unfolding answerOf
 returns c =
     let taken = c .before .before .before .before .before .before .before .before .before .taken .ensures in
     let said = told-as (the-order _ _ _ _ (taken .0) (c .before .before .before .before .before .before .upto .ensures ∙ taken .1)) (c .before .before .before .before .order .ensures) in
-    c .show .ensures ∙ ap written (said .reply)
+    let (put, count) = c .show .ensures in
+    (put ∙ ap written (said .reply), count ∙ ap (λ (r : Reply). length (worded (r .numbers))) (said .reply))
 
 pub answer-spec : {M : Type 1} → statement M
 answer-spec =

@@ -1,4 +1,5 @@
 -- `orders::shown::ask` meets its contract. Assumes nothing.
+use mathlib.Core.Path.{refl}
 use Rattle.orders.proofs.Showing.{asked}
 use borrow.Author.Needs.{needs}
 use Rattle.orders.proofs.shown.ask.Statement.{statement}
@@ -14,7 +15,7 @@ same-length : tie.Need-same-length
 same-length c = search needs
 
 returns : tie.Need-returns
-returns c = asked (c .args .text .now) (c .pre)
+returns c = (asked (c .args .text .now) (c .pre), refl)
 
 pub ask-spec : {M : Type 1} → statement M
 ask-spec = tie.close (tie.spec slice-write-text slice-write-text-2 same-length returns)

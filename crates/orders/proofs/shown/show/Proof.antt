@@ -17,7 +17,9 @@ same-length : tie.Need-same-length
 same-length c = search needs
 
 returns : tie.Need-returns
-returns c = same-text _ (c .before .before .before .write-all .ensures ∙ rw (c .before .before .before .before .before .first .ensures))
+returns c =
+    let (put, count) = c .before .before .before .write-all .ensures in
+    let words = c .before .before .before .before .before .first .ensures in (same-text _ (put ∙ rw words), count ∙ rw words)
 
 pub show-spec : {M : Type 1} → statement M
 show-spec = tie.close (tie.spec first-requires write-all-requires same-length returns)

@@ -1,6 +1,7 @@
 -- `orders::shown::write` meets its contract. Assumes nothing.
-use mathlib.Core.Path.{sym, _∙_}
+use mathlib.Core.Path.{sym, _∙_, ap}
 use native.Mathlib.Omega.{arith}
+use lib.ListN.{length}
 use Rattle.orders.proofs.Showing.{worded-none, text-put}
 use borrow.Author.Needs.{needs}
 use Rattle.orders.proofs.shown.write.Statement.{statement}
@@ -13,7 +14,9 @@ same-length : tie.Need-same-length
 same-length c = search needs
 
 returns : tie.Need-returns
-returns c = c .before .before .ask .ensures ∙ sym (worded-none _ (c .before .before .before .before .if1 .taken))
+returns c =
+    let (put, count) = c .before .before .ask .ensures in
+    let none = worded-none _ (c .before .before .before .before .if1 .taken) in (put ∙ sym none, count ∙ sym (ap length none))
 
 text-requires : tie.Need-text-requires
 text-requires c κs = search needs

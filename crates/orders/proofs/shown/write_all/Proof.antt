@@ -1,7 +1,10 @@
 -- `orders::shown::write_all` meets its contract. Assumes nothing.
-use mathlib.Core.Path.{_∙_}
+use Prim.Native.Nat.{ℕ}
+use mathlib.Core.List.{List}
+use mathlib.Core.Path.{_∙_, ap}
 use native.Mathlib.Omega.{arith}
-use lib.ListN.{length-take}
+use lib.ListN.{length, length-take}
+use Rattle.orders.specs.Lines.{worded}
 use borrow.Author.Needs.{needs}
 use Rattle.orders.proofs.shown.write_all.Statement.{statement}
 use Rattle.orders.proofs.shown.write_all.Tie as tie
@@ -25,7 +28,10 @@ same-length : tie.Need-same-length
 same-length c = search needs
 
 returns : tie.Need-returns
-returns c = c .before .before .write .ensures ∙ rw (c .before .before .before .before .upto .ensures, c .before .before .before .before .before .before .before .put .ensures)
+returns c =
+    let (put, count) = c .before .before .write .ensures in
+    let numbers = c .before .before .before .before .upto .ensures ∙ c .before .before .before .before .before .before .before .put .ensures in
+    (put ∙ ap worded numbers, count ∙ ap (λ (ns : List ℕ). length (worded ns)) numbers)
 
 pub write-all-spec : {M : Type 1} → statement M
 write-all-spec =
