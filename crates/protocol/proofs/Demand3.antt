@@ -1,10 +1,10 @@
 -- Demand 3 holds of every table that opens. Assumes nothing.
-use Prim.Native.Nat.{ℕ, _*_, _≤_, _<_}
+use Prim.Native.Nat.{ℕ, _+_, _*_, _≤_, _<_}
 use mathlib.Core.Bool.{true}
 use mathlib.Core.List.{List}
 use mathlib.Core.Logic.{_≢_}
 use mathlib.Core.Path.{_≡_}
-use native.Mathlib.Decide.{decLt}
+use native.Mathlib.Decide.{ℕ-discrete, decLt}
 use native.Mathlib.Omega.{arith}
 use lib.ListN.{length, take, drop}
 use lib.Seq.{take-at}
@@ -22,10 +22,14 @@ use Rattle.blocks.specs.Head.{head}
 use Rattle.blocks.specs.Tables.{rowGood}
 use Rattle.session.specs.State.{headOf}
 use Rattle.session.specs.Calls.{freshOf}
-use Rattle.protocol.specs.Engine.{ours}
-use Rattle.protocol.specs.Demand3.{Conforms, Demand3}
-use Rattle.protocol.proofs.Invariant.Covers.{Absent, a-end, a-exchange, a-flight, a-loop, a-back, AbsentArms, a-nil, a-arm, Covers, c-gone}
+use Rattle.session.specs.declared.Session.{Session}
+use Rattle.protocol.specs.Each.{Each}
+use Rattle.protocol.specs.Engine.{Call, Engine, ours}
+use Rattle.protocol.specs.Left.{isSend, isReceive, acceptedOf, NothingLeft, left-end, left-exchange, left-flight, left-loop, left-back, NothingLeftArms, left-nil, left-arm}
+use Rattle.protocol.specs.Demand3.{Every, every, after, Conforms, Demand3}
+use Rattle.protocol.proofs.Invariant.Covers.{Covers, c-gone}
 use Rattle.protocol.proofs.Invariant.Holds.{h-quiet}
+use Rattle.protocol.proofs.Invariant.Unread.{unread-holds, unread-count}
 use Rattle.protocol.proofs.Parts.Projected.{projected-fits}
 use Rattle.protocol.proofs.Start.Begins.{begins}
 use Rattle.protocol.proofs.Blocks.Opening.{Opened, opened}
@@ -36,36 +40,36 @@ use Rattle.protocol.proofs.Sessions.States.{freshState, fresh-head, fre
 use Rattle.protocol.proofs.Sessions.Config.{fresh-queue}
 use Rattle.protocol.proofs.Sessions.Calls.{view-absent}
 use Rattle.protocol.proofs.Sessions.Runs.{Ground, Inv, comes-to, comes-once, agrees-after}
-use Rattle.protocol.proofs.Sessions.Followed.{followed}
+use Rattle.protocol.proofs.Sessions.Awaited.{Enough}
+use Rattle.protocol.proofs.Sessions.Followed.{count-held, followed}
 
--- a number that is none of the roles is in no exchange
+-- a number that is none of the roles has nothing to do
 mutual
-  absent-role : {A : Type 0} {roles labels : ℕ} {G : Global A} (r : ℕ) → roles ≤ r → Ranged roles labels G → Absent r G
-  absent-role r h r-end = a-end
-  absent-role r h (r-exchange {p = p} {q = q} i j t) =
+  left-role : {A : Type 0} {roles labels : ℕ} {G : Global A} (r : ℕ) → roles ≤ r → Ranged roles labels G → NothingLeft r G
+  left-role r h r-end = left-end
+  left-role r h (r-exchange {p = p} {q = q} i j t) =
       let n : r ≢ p = omega arith in
       let m : r ≢ q = omega arith in
-      a-exchange n m (absent-roleArms r h t)
-  absent-role r h (r-flight {p = p} {q = q} i j k t) =
-      let n : r ≢ p = omega arith in
+      left-exchange n m (left-roleArms r h t)
+  left-role r h (r-flight {p = p} {q = q} i j k t) =
       let m : r ≢ q = omega arith in
-      a-flight n m (absent-role r h t)
-  absent-role r h (r-loop t) = a-loop (absent-role r h t)
-  absent-role r h r-back = a-back
+      left-flight m (left-role r h t)
+  left-role r h (r-loop t) = left-loop (left-role r h t)
+  left-role r h r-back = left-back
 
-  absent-roleArms : {A : Type 0} {roles labels : ℕ} {cs : Arms A} (r : ℕ) → roles ≤ r → RangedArms roles labels cs → AbsentArms r cs
-  absent-roleArms r h r-nil = a-nil
-  absent-roleArms r h (r-arm i t ts) = a-arm (absent-role r h t) (absent-roleArms r h ts)
+  left-roleArms : {A : Type 0} {roles labels : ℕ} {cs : Arms A} (r : ℕ) → roles ≤ r → RangedArms roles labels cs → NothingLeftArms r cs
+  left-roleArms r h r-nil = left-nil
+  left-roleArms r h (r-arm i t ts) = left-arm (left-role r h t) (left-roleArms r h ts)
 
 module _ (lim : Limits) (t : List ℕ) (roles : ℕ) (o : Opened lim t roles) (kept : TreeKept lim t roles) where
-  ground : Ground lim (blocks t roles) roles
+  pub ground : Ground lim (blocks t roles) roles
   ground = record {
     tables = opened-tables lim t roles o kept;
     good = λ r x h i. opened-rows lim t roles o kept r x h i;
     few-roles = o .few-roles;
   }
 
-  fresh-is : freshOf lim (blocks t roles) roles .state ≡ freshState lim (blocks t roles) roles
+  pub fresh-is : freshOf lim (blocks t roles) roles .state ≡ freshState lim (blocks t roles) roles
   unfolding freshOf
   fresh-is = rw (opened-tables lim t roles o kept)
 
@@ -86,9 +90,9 @@ module _ (lim : Limits) (t : List ℕ) (roles : ℕ) (o : Opened lim t roles) (k
       rw (fresh-head lim (blocks t roles) roles (o .few-roles) r h) (
       begins ℕ (viewOf (blocks t roles) roles r) (head (blocks t roles) roles r) r (opened-heads lim t roles o kept r h)
       (projected-fits P (kept .good) e) (kept .inside) (opened-encodes lim t roles o kept r P h e) n)
-  covers-fresh r n (no h) = c-gone (absent-role r (omega arith) (kept .ranged)) (view-absent (blocks t roles) roles r _ (omega arith))
+  covers-fresh r n (no h) = c-gone (left-role r (omega arith) (kept .ranged)) (view-absent (blocks t roles) roles r _ (omega arith))
 
-  fresh-inv : Inv lim (blocks t roles) roles (freshOf lim (blocks t roles) roles .state) (treeOf t)
+  pub fresh-inv : Inv lim (blocks t roles) roles (freshOf lim (blocks t roles) roles .state) (treeOf t)
   fresh-inv =
       rw fresh-is (record {
         kept = fresh-kept lim (blocks t roles) roles (o .few-roles) first-heads;
@@ -104,21 +108,28 @@ module _ (lim : Limits) (t : List ℕ) (roles : ℕ) (o : Opened lim t roles) (k
   unfolding freshOf
   fresh-number = rw (opened-tables lim t roles o kept)
 
-  conforms : 0 < lim .depth → Conforms lim (ours lim (blocks t roles) roles) t roles
-  conforms deep = record {
+  pub conforms : {may : Call → Type 0} → Enough lim may → 0 < lim .depth → Conforms lim may (ours lim (blocks t roles) roles) t roles
+  conforms enough deep = record {
     fresh-accepted = fresh-number;
-    comes = λ cs. comes-to lim (blocks t roles) roles ground cs (freshOf lim (blocks t roles) roles .state) (treeOf t) fresh-inv;
-    comes-once = λ cs G H a b. comes-once lim (blocks t roles) roles ground a b;
-    follows = λ cs G a.
-        followed lim (blocks t roles) roles ground deep _ G (agrees-after lim (blocks t roles) roles ground a fresh-inv);
+    comes = λ cs _. comes-to lim (blocks t roles) roles ground cs first (treeOf t) fresh-inv;
+    comes-once = λ cs G H a b. comes-once a b;
+    follows = λ cs G _ a.
+        followed lim (blocks t roles) roles ground deep _ G (agrees-after lim (blocks t roles) roles ground a fresh-inv) enough;
+    held-exactly = λ cs p q _ hp hq.
+        let (G, a) = comes-to lim (blocks t roles) roles ground cs first (treeOf t) fresh-inv in
+        count-held lim (blocks t roles) roles ground deep _ G (agrees-after lim (blocks t roles) roles ground a fresh-inv) p q hp hq
+        (unread-holds a (h-quiet (kept .static))) (ℕ-discrete p q);
   }
+    where
+      first : Session
+      first = freshOf lim (blocks t roles) roles .state
 
-written : (lim : Limits) (t : List ℕ) (roles : ℕ) (room : List ℕ) → openOf lim t roles (length room) ≡ accepted
+pub written : (lim : Limits) (t : List ℕ) (roles : ℕ) (room : List ℕ) → openOf lim t roles (length room) ≡ accepted
     → length (blocks t roles) ≡ roles * length t → take (roles * length t) (roomOf lim t roles room) ≡ blocks t roles
 unfolding roomOf
 written lim t roles room e h = rw e (take-at (blocks t roles) (drop (roles * length t) room) (roles * length t) h)
 
-tree-kept : (lim : Limits) (t : List ℕ) (roles : ℕ) → checkOf lim t roles ≡ accepted → TreeKept lim t roles
+pub tree-kept : (lim : Limits) (t : List ℕ) (roles : ℕ) → checkOf lim t roles ≡ accepted → TreeKept lim t roles
 tree-kept lim t roles e = record {
   good = tree-good lim t roles e;
   inside = tree-inside lim t roles e;
@@ -127,13 +138,32 @@ tree-kept lim t roles e = record {
   fits = tree-rows ℕ lim t roles e;
 }
 
--- for any limits that leave a queue a slot
-pub demand3 : (lim : Limits) → 0 < lim .depth → Demand3 lim
-demand3 lim deep t roles room e =
+-- for any limits that leave a queue a slot, and any calls among which are those of the limit's roles and labels
+pub demand3-of : (lim : Limits) (may : Call → Type 0) → Enough lim may → 0 < lim .depth
+    → (t : List ℕ) (roles : ℕ) (room : List ℕ) → openOf lim t roles (length room) ≡ accepted
+    → Conforms lim may (ours lim (take (roles * length t) (roomOf lim t roles room)) roles) t roles
+demand3-of lim may enough deep t roles room e =
     let o = opened lim t roles (length room) e in
     let k = tree-kept lim t roles (o .checked) in
-    rw (written lim t roles room e (length-tables lim t roles o k)) (conforms lim t roles o k deep)
+    rw (written lim t roles room e (length-tables lim t roles o k)) (conforms lim t roles o k enough deep)
+
+-- every call
+pub every-enough : {lim : Limits} → Enough lim Every
+every-enough = record { sends = λ p q l _ _ _. every; receives = λ p q _ _. every }
+
+pub demand3 : (lim : Limits) → 0 < lim .depth → Demand3 lim
+demand3 lim deep = demand3-of lim Every every-enough deep
 
 -- and so for those of document 01
 pub demand3-base : Demand3 base
 demand3-base = demand3 base (omega arith)
+
+-- what a queue holds, counted: with what was received it is what was sent. Of any engine that conforms to a table that opens
+pub held-counted : {S : Type 0} (lim : Limits) (may : Call → Type 0) (e : Engine S) (t : List ℕ) (roles room : ℕ) → openOf lim t roles room ≡ accepted
+    → Conforms lim may e t roles → (cs : List Call) (p q : ℕ) → Each may cs → p < roles → q < roles
+    → e .held (after e cs (e .fresh .state)) p q + acceptedOf e (isReceive p q) cs (e .fresh .state) ≡ acceptedOf e (isSend p q) cs (e .fresh .state)
+held-counted lim may e t roles room opens c cs p q ms h i =
+    let k = tree-kept lim t roles (opened lim t roles room opens .checked) in
+    let (G, r) = c .comes cs ms in
+    let counted = unread-count {p = p} {q = q} r (h-quiet (k .static)) in
+    rw (c .held-exactly cs p q ms h i) (omega (arith, counted))

@@ -1,9 +1,11 @@
 pub mod View
 pub mod Covers
 pub mod Holds
-pub mod Absent
+pub mod Left
 pub mod Agree
 pub mod Complete
 pub mod Follows
 pub mod Queues
 pub mod Theorems
+pub mod Ended
+pub mod Unread

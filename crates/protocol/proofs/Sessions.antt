@@ -6,3 +6,4 @@ pub mod Calls
 pub mod Runs
 pub mod Awaited
 pub mod Followed
+pub mod Fitting

@@ -25,12 +25,8 @@ use Rattle.table.specs.Kept.{
   t-arm,
 }
 use Rattle.table.specs.Tree.{Global, end, exchange, flight, loop, back, Arms, nil, arm}
+use Rattle.protocol.specs.Each.{Each, each-nil, each-cons}
 use Rattle.protocol.specs.Unrolled.{nth, backTo, close, closeArms, unrolled}
-
--- P holds of each
-pub data Each {X : Type 0} (P : X → Type 0) : List X → Type 0 where
-  each-nil : Each P []
-  each-cons : {x : X} {xs : List X} → P x → Each P xs → Each P (x ∷ xs)
 
 -- ---- a property of trees that every back has, and every tree that is put in
 

@@ -1,4 +1,5 @@
--- Demand 3: for every table that opens, and every sequence of sends and receives from a fresh session, refused ones among them. Assumes nothing.
+-- Demand 3: for every table that opens, and every sequence of sends and receives from a fresh session, refused ones among them. An engine
+-- says what its queues hold and who has ended; both are tied, to the accepted calls and to the tree. Assumes nothing.
 use Prim.Native.Nat.{ℕ, _*_, _≤_, _<_}
 use mathlib.Core.Bool.{Bool, true, false}
 use mathlib.Core.List.{List, [], _∷_}
@@ -12,8 +13,14 @@ use Rattle.table.specs.Numbers.{ACCEPTED}
 use Rattle.table.specs.Tree.{Global, treeOf}
 use Rattle.opening.specs.Opening.{openOf, roomOf}
 use Rattle.state.specs.Numbers.{TABLES, STATE, STRAY}
+use Rattle.protocol.specs.Each.{Each}
 use Rattle.protocol.specs.Engine.{Call, sends, receives, caller, Reply, Engine, ours}
+use Rattle.protocol.specs.Left.{unread, NothingLeft}
 use Rattle.protocol.specs.Steps.{Action, send, receive, Step}
+
+-- which calls may be made: every one, or those whose values the types of the code hold (Promised.antt)
+pub data Every : Call → Type 0 where
+  every : {c : Call} → Every c
 
 -- ---- what the protocol has come to
 
@@ -47,9 +54,9 @@ pub data ComesTo {S : Type 0} (e : Engine S) : S → Global ℕ → List Call �
 abbrev pub Allows : Global ℕ → Action ℕ → Type 0
 Allows G a = (G′ : Global ℕ) × Step a G G′
 
--- role r has a call that would be accepted
-abbrev pub HasCall : {S : Type 0} → Engine S → S → ℕ → Type 0
-HasCall e s r = (c : Call) × (caller c ≡ r) × (e .answer c s .number ≡ ACCEPTED)
+-- role r has a call, one that may be made, that would be accepted
+abbrev pub HasCall : {S : Type 0} → (Call → Type 0) → Engine S → S → ℕ → Type 0
+HasCall may e s r = (c : Call) × may c × (caller c ≡ r) × (e .answer c s .number ≡ ACCEPTED)
 
 -- every role has ended and every queue is empty
 pub record Finished {S : Type 0} (e : Engine S) (roles : ℕ) (s : S) : Type 0 where
@@ -57,45 +64,50 @@ pub record Finished {S : Type 0} (e : Engine S) (roles : ℕ) (s : S) : Type 0 w
   pub empty : (p q : ℕ) → p < roles → q < roles → e .held s p q ≡ 0
 
 -- of an engine in the state s, while the protocol of so many roles has come to G
-pub record Follows {S : Type 0} (lim : Limits) (e : Engine S) (roles : ℕ) (s : S) (G : Global ℕ) : Type 0 where
+pub record Follows {S : Type 0} (lim : Limits) (may : Call → Type 0) (e : Engine S) (roles : ℕ) (s : S) (G : Global ℕ) : Type 0 where
   -- a call is accepted exactly when the step rules allow it then and, for a send, the pair's queue has room
-  pub send-exactly : (p q l v : ℕ)
+  pub send-exactly : (p q l v : ℕ) → may (sends p q l v)
       → (e .answer (sends p q l v) s .number ≡ ACCEPTED) ↔ (Allows G (send p q l v) × (e .held s p q < lim .depth))
-  pub receive-exactly : (p q : ℕ)
+  pub receive-exactly : (p q : ℕ) → may (receives p q)
       → (e .answer (receives p q) s .number ≡ ACCEPTED) ↔ ((l : ℕ) × (v : ℕ) × Allows G (receive p q l v))
   -- a receive returns the label and the payload of that step
-  pub receive-returns : (p q l v : ℕ) → Allows G (receive p q l v)
+  pub receive-returns : (p q l v : ℕ) → may (receives p q) → Allows G (receive p q l v)
       → (e .answer (receives p q) s .label ≡ l) × (e .answer (receives p q) s .payload ≡ v)
   -- no message that was let in is ever refused for its label, and no call for its tables or its state
-  pub never-stray : (p q : ℕ) → e .answer (receives p q) s .number ≢ STRAY
-  pub never-tables : (c : Call) → e .answer c s .number ≢ TABLES
-  pub never-state : (c : Call) → e .answer c s .number ≢ STATE
+  pub never-stray : (p q : ℕ) → may (receives p q) → e .answer (receives p q) s .number ≢ STRAY
+  pub never-tables : (c : Call) → may c → e .answer c s .number ≢ TABLES
+  pub never-state : (c : Call) → may c → e .answer c s .number ≢ STATE
   -- the awaited roles are exactly those with a call that would be accepted; how many they are; and the least, or the limit's roles for none
   pub awaited : ℕ → Bool
-  pub awaited-exactly : (r : ℕ) → r < roles → (awaited r ≡ true) ↔ HasCall e s r
+  pub awaited-exactly : (r : ℕ) → r < roles → (awaited r ≡ true) ↔ HasCall may e s r
   pub awaited-number : e .awaited s .number ≡ ACCEPTED
   pub awaited-set : e .awaited s .set ≡ setOf awaited roles
   pub awaited-count : e .awaited s .count ≡ howMany awaited roles
   pub awaited-least : (r : ℕ) → r < roles → awaited r ≡ true
       → (e .awaited s .lowest ≤ r) × (awaited (e .awaited s .lowest) ≡ true)
   pub awaited-none : ((r : ℕ) → r < roles → awaited r ≡ false) → e .awaited s .lowest ≡ lim .roles
+  -- a role has ended exactly when the tree leaves it nothing to do
+  pub ended-exactly : (r : ℕ) → r < roles → e .ended s r ↔ NothingLeft r G
   -- until every role has ended and every queue is empty somebody is awaited; then nobody is
   pub until-finished : ¬ Finished e roles s → e .awaited s .set ≢ 0
   pub when-finished : Finished e roles s → e .awaited s .set ≡ 0
 
--- of an engine, and a table t of so many roles
-pub record Conforms {S : Type 0} (lim : Limits) (e : Engine S) (t : List ℕ) (roles : ℕ) : Type 0 where
+-- of an engine, and a table t of so many roles, when such calls may be made
+pub record Conforms {S : Type 0} (lim : Limits) (may : Call → Type 0) (e : Engine S) (t : List ℕ) (roles : ℕ) : Type 0 where
   pub fresh-accepted : e .fresh .number ≡ ACCEPTED
   -- after every list of calls the protocol has come to a tree, from the table's own: each accepted call was a step that it allowed then
-  pub comes : (cs : List Call) → (G : Global ℕ) × ComesTo e (e .fresh .state) (treeOf t) cs G
+  pub comes : (cs : List Call) → Each may cs → (G : Global ℕ) × ComesTo e (e .fresh .state) (treeOf t) cs G
   -- to one tree only
   pub comes-once : (cs : List Call) (G H : Global ℕ) → ComesTo e (e .fresh .state) (treeOf t) cs G
       → ComesTo e (e .fresh .state) (treeOf t) cs H → G ≡ H
   -- and then
-  pub follows : (cs : List Call) (G : Global ℕ) → ComesTo e (e .fresh .state) (treeOf t) cs G
-      → Follows lim e roles (after e cs (e .fresh .state)) G
+  pub follows : (cs : List Call) (G : Global ℕ) → Each may cs → ComesTo e (e .fresh .state) (treeOf t) cs G
+      → Follows lim may e roles (after e cs (e .fresh .state)) G
+  -- and the queue of each pair holds as many messages as those calls sent and did not receive
+  pub held-exactly : (cs : List Call) (p q : ℕ) → Each may cs → p < roles → q < roles
+      → e .held (after e cs (e .fresh .state)) p q ≡ length (unread e p q cs (e .fresh .state) [])
 
 -- for every table that opens in some room, over the first words of the room afterwards
 abbrev pub Demand3 : Limits → Type 0
 Demand3 lim = (t : List ℕ) (roles : ℕ) (room : List ℕ) → openOf lim t roles (length room) ≡ accepted
-    → Conforms lim (ours lim (take (roles * length t) (roomOf lim t roles room)) roles) t roles
+    → Conforms lim Every (ours lim (take (roles * length t) (roomOf lim t roles room)) roles) t roles

@@ -42,9 +42,9 @@ pub record Engine (S : Type 0) : Type 1 where
   pub fresh : Reply S
   pub answer : Call → S → Reply S
   pub awaited : S → RoleSet
-  -- how many messages the queue from p to q holds
+  -- how many messages the queue from p to q holds: it may not say this as it likes (Demand3.held-exactly)
   pub held : S → ℕ → ℕ → ℕ
-  -- role r has ended
+  -- role r has ended: nor this (Demand3.ended-exactly)
   pub ended : S → ℕ → Type 0
 
 -- ---- engines over this library's sessions, with the tables ts of so many roles

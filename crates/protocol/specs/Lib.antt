@@ -1,7 +1,11 @@
+pub mod Each
 pub mod Unrolled
 pub mod Steps
 pub mod Engine
+pub mod Left
 pub mod Demand3
+pub mod Fits
 pub mod Promised
+pub mod Refused
 pub mod ShutOut
 pub mod Stories

@@ -1,22 +1,26 @@
 -- Demand 3 said of the code's own answers: from the promises of its public calls to the record, with nothing between. Assumes nothing.
 use Prim.Native.Nat.{ℕ, _*_}
 use mathlib.Core.List.{List}
+use mathlib.Core.Logic.{_≢_}
 use mathlib.Core.Path.{_≡_}
 use lib.ListN.{length, take}
 use Rattle.table.specs.Limits.{base}
 use Rattle.table.specs.Numbers.{ACCEPTED}
 use Rattle.table.specs.declared.Verdict.{Verdict}
 use Rattle.opening.specs.Opening.{openOf, roomOf}
+use Rattle.state.specs.Numbers.{STRAY}
 use Rattle.session.specs.Calls.{freshOf, sendOf, receiveOf}
 use Rattle.session.specs.Awaited.{awaitedOf}
 use Rattle.session.specs.declared.Answer.{Answer}
 use Rattle.session.specs.declared.Awaiting.{Awaiting}
 use Rattle.session.specs.declared.Session.{Session}
+use Rattle.protocol.specs.Each.{Each}
 use Rattle.protocol.specs.Engine.{Call, sends, receives, Engine, over}
-use Rattle.protocol.specs.Demand3.{Conforms}
+use Rattle.protocol.specs.Fits.{Size, Words, Fits, FitsSession}
+use Rattle.protocol.specs.Demand3.{after, Conforms}
 
 -- the public calls, as functions of the values that they are given. The types of the code bound those values, and its promises speak of
--- them only: a Code answers as it does there, and beyond as the same equations say
+-- them only (Fits.antt): beyond, a Code answers anything
 pub record Code : Type 0 where
   -- `open`: table, roles, room. The verdict, and the room afterwards
   pub verdict : List ℕ → ℕ → List ℕ → Verdict
@@ -32,14 +36,19 @@ pub record Code : Type 0 where
 
 -- the promises of `open` (crates/opening/src/lib.rt) and of the calls of `Session` (crates/session/src/lib.rt)
 pub record Promises (code : Code) : Type 0 where
-  pub verdict : (table : List ℕ) (roles : ℕ) (room : List ℕ) → code .verdict table roles room ≡ openOf base table roles (length room)
-  pub filled : (table : List ℕ) (roles : ℕ) (room : List ℕ) → code .filled table roles room ≡ roomOf base table roles room
-  pub fresh : (tables : List ℕ) (roles : ℕ) → code .fresh tables roles ≡ freshOf base tables roles
+  pub verdict : (table : List ℕ) (roles : ℕ) (room : List ℕ) → Words table → Size roles → Words room
+      → code .verdict table roles room ≡ openOf base table roles (length room)
+  pub filled : (table : List ℕ) (roles : ℕ) (room : List ℕ) → Words table → Size roles → Words room
+      → code .filled table roles room ≡ roomOf base table roles room
+  pub fresh : (tables : List ℕ) (roles : ℕ) → Words tables → Size roles → code .fresh tables roles ≡ freshOf base tables roles
   pub send : (state : Session) (tables : List ℕ) (roles sender receiver label payload : ℕ)
+      → FitsSession state → Words tables → Size roles → Fits (sends sender receiver label payload)
       → code .send state tables roles sender receiver label payload ≡ sendOf base tables roles sender receiver label payload state
   pub receive : (state : Session) (tables : List ℕ) (roles sender receiver : ℕ)
+      → FitsSession state → Words tables → Size roles → Fits (receives sender receiver)
       → code .receive state tables roles sender receiver ≡ receiveOf base tables roles sender receiver state
-  pub awaited : (state : Session) (tables : List ℕ) (roles : ℕ) → code .awaited state tables roles ≡ awaitedOf base tables roles state
+  pub awaited : (state : Session) (tables : List ℕ) (roles : ℕ) → FitsSession state → Words tables → Size roles
+      → code .awaited state tables roles ≡ awaitedOf base tables roles state
 
 abbrev pub codeAnswer : Code → List ℕ → ℕ → Call → Session → Answer
 codeAnswer code ts roles (sends p q l v) s = code .send s ts roles p q l v
@@ -49,7 +58,22 @@ codeAnswer code ts roles (receives p q) s = code .receive s ts roles p q
 abbrev pub engineOf : Code → List ℕ → ℕ → Engine Session
 engineOf code ts roles = over base ts roles (code .fresh ts roles) (codeAnswer code ts roles) (λ s. code .awaited s ts roles)
 
--- for every table that the code accepts, over the first words of the room that it leaves
+-- for every table that the code accepts, over the first words of the room that it leaves, and every sequence of calls that fit
 abbrev pub Demand3OfCode : Code → Type 0
-Demand3OfCode code = (table : List ℕ) (roles : ℕ) (room : List ℕ) → code .verdict table roles room .number ≡ ACCEPTED
-    → Conforms base (engineOf code (take (roles * length table) (code .filled table roles room)) roles) table roles
+Demand3OfCode code = (table : List ℕ) (roles : ℕ) (room : List ℕ) → Words table → Size roles → Words room
+    → code .verdict table roles room .number ≡ ACCEPTED
+    → Conforms base Fits (engineOf code (take (roles * length table) (code .filled table roles room)) roles) table roles
+
+-- and every session that those calls come to fits: no call of them is made beyond the promises
+abbrev pub SessionsFit : Code → Type 0
+SessionsFit code = (table : List ℕ) (roles : ℕ) (room : List ℕ) → Words table → Size roles → Words room
+    → code .verdict table roles room .number ≡ ACCEPTED → (cs : List Call) → Each Fits cs
+    → let e = engineOf code (take (roles * length table) (code .filled table roles room)) roles in
+    FitsSession (after e cs (e .fresh .state))
+
+-- and over tables that an opening wrote, STRAY is met only by a state made by hand: after no such calls is a receive refused with it
+abbrev pub NeverStray : Code → Type 0
+NeverStray code = (table : List ℕ) (roles : ℕ) (room : List ℕ) → Words table → Size roles → Words room
+    → code .verdict table roles room .number ≡ ACCEPTED → (cs : List Call) → Each Fits cs → (p q : ℕ) → Fits (receives p q)
+    → let e = engineOf code (take (roles * length table) (code .filled table roles room)) roles in
+    e .answer (receives p q) (after e cs (e .fresh .state)) .number ≢ STRAY

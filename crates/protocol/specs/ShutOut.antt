@@ -1,5 +1,5 @@
 -- Engines that demand 3 must not let through, each made from any engine e. proofs/ShutOut.antt shows that it does not. Assumes nothing.
-use Prim.Native.Nat.{ℕ, _+_}
+use Prim.Native.Nat.{ℕ, _+_, _*_}
 use mathlib.Core.Bool.{Bool, true, false}
 use Rattle.table.specs.Numbers.{ACCEPTED}
 use Rattle.state.specs.Numbers.{TURN}
@@ -52,3 +52,11 @@ counting e f = record {
 -- one too many
 abbrev pub overcounting : {S : Type 0} → Engine S → Engine S
 overcounting e = counting e (λ s. e .awaited s .count + 1)
+
+-- says other things of what its queues hold and of who has ended
+abbrev pub saying : {S : Type 0} → Engine S → (S → ℕ → ℕ → ℕ) → (S → ℕ → Type 0) → Engine S
+saying e f g = record { fresh = e .fresh; answer = e .answer; awaited = e .awaited; held = f; ended = g }
+
+-- each message is four
+abbrev pub boasting : {S : Type 0} → Engine S → Engine S
+boasting e = saying e (λ s p q. 4 * e .held s p q) (e .ended)

@@ -5,3 +5,4 @@ pub mod Calling
 pub mod Promises
 pub mod Accepted
 pub mod Kept
+pub mod Refused

@@ -2,3 +2,4 @@ pub mod mirror
 pub mod State
 pub mod Calls
 pub mod Awaited
+pub mod Refused

@@ -8,6 +8,7 @@ use mathlib.Core.Path.{_≡_}
 use Rattle.table.specs.Kept.{HasLabel}
 use Rattle.table.specs.Tree.{Global, end, exchange, flight, loop, back, Arms, nil, arm}
 use Rattle.blocks.specs.Head.{ArmAt, find}
+use Rattle.protocol.specs.Left.{NothingLeft}
 use Rattle.protocol.specs.Steps.{SomeArm}
 use Rattle.protocol.specs.Unrolled.{unrolled}
 use Rattle.protocol.proofs.Invariant.View.{View, v-end, v-send, v-receive}
@@ -32,7 +33,7 @@ module _ {A : Type 0} (view : ℕ → View) (head : ℕ → ℕ) where
     -- two actions of r the derivation is finite; across an action n falls, so that a loop needs no infinite derivation
     pub data Covers (r : ℕ) : ℕ → Global A → ℕ → Type 0 where
       c-zero : {row : ℕ} {G : Global A} → Covers r zero G row
-      c-gone : {n row : ℕ} {G : Global A} → Absent r G → view row ≡ v-end → Covers r n G row
+      c-gone : {n row : ℕ} {G : Global A} → NothingLeft r G → view row ≡ v-end → Covers r n G row
       -- exactly the labels of the exchange
       c-send : {n row p q : ℕ} {cs : Arms A} {arms : List ArmAt}
           → r ≡ p → p ≢ q → view row ≡ v-send q arms → SomeArm cs

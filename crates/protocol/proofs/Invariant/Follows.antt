@@ -27,7 +27,7 @@ use Rattle.protocol.specs.Steps.{
   each-arm,
 }
 use Rattle.protocol.proofs.Invariant.View.{View, Does, does-send, does-receive, goes-send, goes-receive}
-use Rattle.protocol.proofs.Invariant.Absent.{absent-step, absent-still}
+use Rattle.protocol.proofs.Invariant.Left.{left-step, left-still}
 use Rattle.protocol.proofs.Invariant.Covers.{
   Covers,
   c-zero,
@@ -68,25 +68,25 @@ module _ {A : Type 0} (view : ℕ → View) (head : ℕ → ℕ) where
     pub others-cover : {r n row : ℕ} {a : Action A} {G G′ : Global A} → Step a G G′ → r ≢ subject a
         → Covers view head r n G row → Covers view head r n G′ row
     others-cover (rule-1 i) ne c-zero = c-zero
-    others-cover (rule-1 i) ne (c-gone f e) = c-gone (absent-step (rule-1 i) f) e
+    others-cover (rule-1 i) ne (c-gone f e) = c-gone (left-step (rule-1 i) f) e
     others-cover (rule-1 i) ne (c-send rp pq e sm labels ca) = absurd (ne rp)
     others-cover (rule-1 i) ne (c-receive rq pq e sm ca) = let (x, f, c) = arms-in i ca in c-get rq e f c
     others-cover (rule-1 i) ne (c-past rp rq sm ce) = c-over rq (each-in i ce)
     others-cover rule-2 ne c-zero = c-zero
-    others-cover rule-2 ne (c-gone f e) = c-gone (absent-step rule-2 f) e
+    others-cover rule-2 ne (c-gone f e) = c-gone (left-step rule-2 f) e
     others-cover rule-2 ne (c-get rq e f c) = absurd (ne rq)
     others-cover rule-2 ne (c-over rq c) = c
     others-cover (rule-3 s) ne c-zero = c-zero
-    others-cover (rule-3 s) ne (c-gone f e) = c-gone (absent-step (rule-3 s) f) e
+    others-cover (rule-3 s) ne (c-gone f e) = c-gone (left-step (rule-3 s) f) e
     others-cover (rule-3 s) ne (c-loop c) = others-cover s ne c
     others-cover (rule-4 sp sq sm ss) ne c-zero = c-zero
-    others-cover (rule-4 sp sq sm ss) ne (c-gone f e) = c-gone (absent-step (rule-4 sp sq sm ss) f) e
+    others-cover (rule-4 sp sq sm ss) ne (c-gone f e) = c-gone (left-step (rule-4 sp sq sm ss) f) e
     others-cover (rule-4 sp sq sm ss) ne (c-send rp pq e sm′ labels ca) =
         c-send rp pq e (some-steps ss sm′) (λ l x f. label-steps ss (labels l x f)) (others-coverArms ss ne ca)
     others-cover (rule-4 sp sq sm ss) ne (c-receive rq pq e sm′ ca) = c-receive rq pq e (some-steps ss sm′) (others-coverArms ss ne ca)
     others-cover (rule-4 sp sq sm ss) ne (c-past rp rq sm′ ce) = c-past rp rq (some-steps ss sm′) (others-coverEach ss ne ce)
     others-cover (rule-5 sq s) ne c-zero = c-zero
-    others-cover (rule-5 sq s) ne (c-gone f e) = c-gone (absent-step (rule-5 sq s) f) e
+    others-cover (rule-5 sq s) ne (c-gone f e) = c-gone (left-step (rule-5 sq s) f) e
     others-cover (rule-5 sq s) ne (c-get rq e f c) = c-get rq e f (others-cover s ne c)
     others-cover (rule-5 sq s) ne (c-over rq c) = c-over rq (others-cover s ne c)
 
@@ -104,20 +104,20 @@ module _ {A : Type 0} (view : ℕ → View) (head : ℕ → ℕ) where
   mutual
     pub does : {n row : ℕ} {a : Action A} {G G′ : Global A} → Step a G G′ → Covers view head (subject a) (suc n) G row
         → (x : ℕ) × Does a (view row) x
-    does (rule-1 {v = v} i) (c-gone f e) = absurd (absent-still (rule-1 {v = v} i) f)
+    does (rule-1 {v = v} i) (c-gone f e) = absurd (left-still (rule-1 {v = v} i) f)
     does (rule-1 i) (c-send rp pq e sm labels ca) = let (x, f, c) = arms-in i ca in (x, rw e (does-send f))
     does (rule-1 i) (c-receive rq pq e sm ca) = absurd (pq rq)
     does (rule-1 i) (c-past rp rq sm ce) = absurd (rp refl)
-    does rule-2 (c-gone f e) = absurd (absent-still rule-2 f)
+    does rule-2 (c-gone f e) = absurd (left-still rule-2 f)
     does rule-2 (c-get {x = x} rq e f c) = (x, rw e (does-receive f))
     does rule-2 (c-over rq c) = absurd (rq refl)
-    does (rule-3 s) (c-gone f e) = absurd (absent-still (rule-3 s) f)
+    does (rule-3 s) (c-gone f e) = absurd (left-still (rule-3 s) f)
     does (rule-3 s) (c-loop c) = does s c
-    does (rule-4 sp sq sm ss) (c-gone f e) = absurd (absent-still (rule-4 sp sq sm ss) f)
+    does (rule-4 sp sq sm ss) (c-gone f e) = absurd (left-still (rule-4 sp sq sm ss) f)
     does (rule-4 sp sq sm ss) (c-send rp pq e sm′ labels ca) = absurd (sp rp)
     does (rule-4 sp sq sm ss) (c-receive rq pq e sm′ ca) = absurd (sq rq)
     does (rule-4 sp sq sm ss) (c-past rp rq sm′ ce) = does-first ss sm ce
-    does (rule-5 sq s) (c-gone f e) = absurd (absent-still (rule-5 sq s) f)
+    does (rule-5 sq s) (c-gone f e) = absurd (left-still (rule-5 sq s) f)
     does (rule-5 sq s) (c-get rq e f c) = absurd (sq rq)
     does (rule-5 sq s) (c-over rq c) = does s c
 
@@ -129,20 +129,20 @@ module _ {A : Type 0} (view : ℕ → View) (head : ℕ → ℕ) where
   mutual
     pub subject-covers : {n row x : ℕ} {a : Action A} {G G′ : Global A} → Step a G G′ → Covers view head (subject a) (suc n) G row
         → Does a (view row) x → Covers view head (subject a) n G′ (head x)
-    subject-covers (rule-1 {v = v} i) (c-gone f e) d = absurd (absent-still (rule-1 {v = v} i) f)
+    subject-covers (rule-1 {v = v} i) (c-gone f e) d = absurd (left-still (rule-1 {v = v} i) f)
     subject-covers (rule-1 i) (c-send rp pq e sm labels ca) d = let (y, f, c) = arms-in i ca in c-over pq (rw (goes-send d e f) at c)
     subject-covers (rule-1 i) (c-receive rq pq e sm ca) d = absurd (pq rq)
     subject-covers (rule-1 i) (c-past rp rq sm ce) d = absurd (rp refl)
-    subject-covers rule-2 (c-gone f e) d = absurd (absent-still rule-2 f)
+    subject-covers rule-2 (c-gone f e) d = absurd (left-still rule-2 f)
     subject-covers rule-2 (c-get rq e f c) d = rw (goes-receive d e f) at c
     subject-covers rule-2 (c-over rq c) d = absurd (rq refl)
-    subject-covers (rule-3 s) (c-gone f e) d = absurd (absent-still (rule-3 s) f)
+    subject-covers (rule-3 s) (c-gone f e) d = absurd (left-still (rule-3 s) f)
     subject-covers (rule-3 s) (c-loop c) d = subject-covers s c d
-    subject-covers (rule-4 sp sq sm ss) (c-gone f e) d = absurd (absent-still (rule-4 sp sq sm ss) f)
+    subject-covers (rule-4 sp sq sm ss) (c-gone f e) d = absurd (left-still (rule-4 sp sq sm ss) f)
     subject-covers (rule-4 sp sq sm ss) (c-send rp pq e sm′ labels ca) d = absurd (sp rp)
     subject-covers (rule-4 sp sq sm ss) (c-receive rq pq e sm′ ca) d = absurd (sq rq)
     subject-covers (rule-4 sp sq sm ss) (c-past rp rq sm′ ce) d = c-past rp rq (some-steps ss sm) (subject-coversEach ss ce d)
-    subject-covers (rule-5 sq s) (c-gone f e) d = absurd (absent-still (rule-5 sq s) f)
+    subject-covers (rule-5 sq s) (c-gone f e) d = absurd (left-still (rule-5 sq s) f)
     subject-covers (rule-5 sq s) (c-get rq e f c) d = absurd (sq rq)
     subject-covers (rule-5 sq s) (c-over rq c) d = c-over rq (subject-covers s c d)
 

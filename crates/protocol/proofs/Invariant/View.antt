@@ -26,6 +26,12 @@ end≢send e f = let z : _≡_ {A = ℕ} 0 1 = cc in omega arith
 pub end≢receive : {w : View} {q : ℕ} {arms : List ArmAt} → w ≡ v-end → w ≡ v-receive q arms → ⊥
 end≢receive e f = let z : _≡_ {A = ℕ} 0 1 = cc in omega arith
 
+pub end≢loop : {w : View} {x : ℕ} → w ≡ v-end → w ≡ v-loop x → ⊥
+end≢loop e f = let z : _≡_ {A = ℕ} 0 1 = cc in omega arith
+
+pub end≢back : {w : View} {x : ℕ} → w ≡ v-end → w ≡ v-back x → ⊥
+end≢back e f = let z : _≡_ {A = ℕ} 0 1 = cc in omega arith
+
 pub send≢receive : {w : View} {q q′ : ℕ} {arms arms′ : List ArmAt} → w ≡ v-send q arms → w ≡ v-receive q′ arms′ → ⊥
 send≢receive e f = let z : _≡_ {A = ℕ} 0 1 = cc in omega arith
 

@@ -39,7 +39,12 @@ use Rattle.protocol.proofs.Sessions.Calls.{
   receive-refused,
   receive-accepted,
 }
-use Rattle.protocol.proofs.Sessions.Runs.{Ground, Inv, the-send, the-receive}
+use Rattle.protocol.proofs.Sessions.Runs.{Ground, Inv, send-target, the-send, the-receive}
+
+-- among the calls that may be made are those of the limit's roles and labels, sends with the payload 0
+pub record Enough (lim : Limits) (may : Call → Type 0) : Type 0 where
+  pub sends : (p q l : ℕ) → p < lim .roles → q < lim .roles → l < lim .labels → may (sends p q l 0)
+  pub receives : (p q : ℕ) → p < lim .roles → q < lim .roles → may (receives p q)
 
 module _ (lim : Limits) (ts : List ℕ) (roles : ℕ) (ground : Ground lim ts roles) (s : Session) (G : Global ℕ) (inv : Inv lim ts roles s G) where
   pub send-is-accepted : {p q l v : ℕ} {a : Answer} → SendCase lim ts roles s p q l v a → (c : ℕ) → Does (send p q l v) (standsAt lim ts roles s p) c
@@ -78,19 +83,19 @@ module _ (lim : Limits) (ts : List ℕ) (roles : ℕ) (ground : Ground lim ts ro
   call-awaited (sends p q l v) e = sent-awaited (the-send lim ts roles ground s G inv p q l v) e
   call-awaited (receives p q) e = received-awaited (the-receive lim ts roles ground s G inv p q) e
 
-  pub has-call-awaited : (r : ℕ) → HasCall (ours lim ts roles) s r → isAwaited lim ts roles s r ≡ true
-  has-call-awaited r t = rw (t .1) at (call-awaited (t .0) (t .2))
+  pub has-call-awaited : {may : Call → Type 0} (r : ℕ) → HasCall may (ours lim ts roles) s r → isAwaited lim ts roles s r ≡ true
+  has-call-awaited r t = rw (t .2) at (call-awaited (t .0) (t .3))
 
   -- ---- who is awaited has a call
 
-  awaited-call : (r : ℕ) → r < roles → (w : PartRow) → partRow ts roles r (headOf s r) ≡ w → canAct lim ts roles (listed s) r w ≡ true
-      → HasCall (ours lim ts roles) s r
+  awaited-call : {may : Call → Type 0} → Enough lim may → (r : ℕ) → r < roles → (w : PartRow) → partRow ts roles r (headOf s r) ≡ w
+      → canAct lim ts roles (listed s) r w ≡ true → HasCall may (ours lim ts roles) s r
   unfolding canAct answerTo
-  awaited-call r h (End a b c) e t = absurd (true≢false (sym t))
-  awaited-call r h (Arm l c n) e t = absurd (true≢false (sym t))
-  awaited-call r h (Loop b x y) e t = absurd (true≢false (sym t))
-  awaited-call r h (Back j x y) e t = absurd (true≢false (sym t))
-  awaited-call r h (Send q f x) e t =
+  awaited-call enough r h (End a b c) e t = absurd (true≢false (sym t))
+  awaited-call enough r h (Arm l c n) e t = absurd (true≢false (sym t))
+  awaited-call enough r h (Loop b x y) e t = absurd (true≢false (sym t))
+  awaited-call enough r h (Back j x y) e t = absurd (true≢false (sym t))
+  awaited-call enough r h (Send q f x) e t =
       let at = stands-at r (Send q f x) h e in
       let row : rowHolds lim ts roles r (headOf s r) (Send q f x) ≡ true =
       rw e at (holds lim ts roles r (λ y i. ground .good r y h i) (headOf s r) (inv .kept .heads-in r h)) in
@@ -99,16 +104,27 @@ module _ (lim : Limits) (ts : List ℕ) (roles : ℕ) (ground : Ground lim ts ro
       let found : find l (armsOf ts roles r f) ≡ some c =
       found-first ts roles r l c n (blockRows ts roles) f (omega (arith, act .first-in)) (omega (arith, act .first-above)) w in
       let d : Does {A = ℕ} (send r q l 0) (standsAt lim ts roles s r) c = rw at (does-send {q = q} {arms = armsOf ts roles r f} found) in
-      (sends r q l 0, refl, send-is-accepted (the-send lim ts roles ground s G inv r q l 0) c d (ltb-true (held lim s r q) (lim .depth) t))
-  awaited-call r h (Receive p f x) e t =
+      let low = send-target lim ts roles ground s G inv r q l 0 c d .low in (
+        sends r q l 0,
+        enough .sends r q l (omega (arith, ground .few-roles)) (omega (arith, ground .few-roles, act .peer-in)) low,
+        refl,
+        send-is-accepted (the-send lim ts roles ground s G inv r q l 0) c d (ltb-true (held lim s r q) (lim .depth) t),
+      )
+  awaited-call enough r h (Receive p f x) e t =
       let at = stands-at r (Receive p f x) h e in
       let (t₁, t₂) = both (ltb 0 (held lim s p r)) (isFound (find (labelAt lim s p r 0) (armsOf ts roles r f))) t in
       let (c, found) = is-found (find (labelAt lim s p r 0) (armsOf ts roles r f)) t₂ in
       let d : Does {A = ℕ} (receive p r (labelAt lim s p r 0) (payloadAt lim s p r 0)) (standsAt lim ts roles s r) c =
       rw at (does-receive {p = p} {arms = armsOf ts roles r f} found) in
       let ok = receive-is-accepted (the-receive lim ts roles ground s G inv p r) _ _ c d (ltb-true 0 (held lim s p r) t₁) in
-      (receives p r, refl, ok)
-  awaited-call r h Other e t = absurd (true≢false (sym t))
+      let two = receiving lim ts roles s (ground .tables) (ground .good) (inv .kept) p r (armsOf ts roles r f) at .pair in (
+        receives p r,
+        enough .receives p r (omega (arith, ground .few-roles, two .sender-in)) (omega (arith, ground .few-roles)),
+        refl,
+        ok,
+      )
+  awaited-call enough r h Other e t = absurd (true≢false (sym t))
 
-  pub awaited-has-call : (r : ℕ) → r < roles → isAwaited lim ts roles s r ≡ true → HasCall (ours lim ts roles) s r
-  awaited-has-call r h t = awaited-call r h (partRow ts roles r (headOf s r)) refl t
+  pub awaited-has-call : {may : Call → Type 0} → Enough lim may → (r : ℕ) → r < roles → isAwaited lim ts roles s r ≡ true
+      → HasCall may (ours lim ts roles) s r
+  awaited-has-call enough r h t = awaited-call enough r h (partRow ts roles r (headOf s r)) refl t

@@ -2,12 +2,13 @@
 use Prim.Native.Nat.{ℕ, zero, suc, _*_, _^_, _≤_, _<_}
 use mathlib.Core.Bool.{Bool, true, false, cond, _&&_, true≢false}
 use mathlib.Core.List.{List, [], _∷_}
-use mathlib.Core.Logic.{_≢_, inl, inr}
+use mathlib.Core.Logic.{_≢_, _↔_, inl, inr}
 use mathlib.Core.Path.{_≡_, refl, sym, _∙_, ap}
 use native.Mathlib.Decide.{ℕ-discrete, decLt}
 use native.Mathlib.Nat.{zero-mul, one-mul}
 use native.Mathlib.Omega.{arith}
 use lib.Dec.{ltb, eqb}
+use lib.ListN.{length}
 use lib.Pow.{pow-pos}
 use borrow.Author.Tests.{lt-ltb, le-ltb, eqb-true, eq-eqb}
 use Rattle.words.specs.Below.{lowest, sum, one, setOf}
@@ -28,15 +29,19 @@ use Rattle.session.specs.declared.Answer.{Answer}
 use Rattle.session.specs.declared.Session.{Session}
 use Rattle.protocol.specs.Steps.{Action, send, receive}
 use Rattle.protocol.specs.Engine.{Call, sends, receives, answerTo, ours}
-use Rattle.protocol.specs.Demand3.{Allows, Finished, Follows}
-use Rattle.protocol.proofs.Invariant.View.{View, Does, of-send, end≢send, end≢receive}
+use Rattle.protocol.specs.Left.{NothingLeft}
+use Rattle.protocol.specs.Demand3.{Every, every, Allows, Finished, Follows}
+use Rattle.protocol.proofs.Invariant.View.{View, v-end, v-send, v-receive, v-loop, v-back, Does, of-send, end≢send, end≢receive, end≢loop, end≢back}
 use Rattle.protocol.proofs.Invariant.Agree.{sender, receiver, IsSend, is-send, Config, Moves, m-send, m-receive}
+use Rattle.protocol.proofs.Invariant.Holds.{Holds}
+use Rattle.protocol.proofs.Invariant.Ended.{end-left, left-ends}
+use Rattle.protocol.proofs.Invariant.Unread.{holds-once}
 use Rattle.protocol.proofs.Invariant.Queues.{nil≢cons}
-use Rattle.protocol.proofs.Invariant.Theorems.{preservation, progress, Unfinished}
-use Rattle.protocol.proofs.Blocks.Views.{viewOf}
+use Rattle.protocol.proofs.Invariant.Theorems.{one≢0, preservation, progress, Unfinished}
+use Rattle.protocol.proofs.Blocks.Views.{look, viewOf}
 use Rattle.protocol.proofs.Sessions.Walks.{holds}
 use Rattle.protocol.proofs.Sessions.States.{Pair, state-good}
-use Rattle.protocol.proofs.Sessions.Config.{listed, messageAt, contents, configOf, queue-of}
+use Rattle.protocol.proofs.Sessions.Config.{listed, messageAt, contents, configOf, queue-of, fresh-queue}
 use Rattle.protocol.proofs.Sessions.Calls.{
   standsAt,
   stands-row,
@@ -50,7 +55,7 @@ use Rattle.protocol.proofs.Sessions.Calls.{
   receive-accepted,
 }
 use Rattle.protocol.proofs.Sessions.Runs.{Ground, Inv, Outcome, refused, accepted, outcome, the-send, the-receive}
-use Rattle.protocol.proofs.Sessions.Awaited.{send-is-accepted, receive-is-accepted, has-call-awaited, awaited-has-call}
+use Rattle.protocol.proofs.Sessions.Awaited.{Enough, send-is-accepted, receive-is-accepted, has-call-awaited, awaited-has-call}
 
 -- ---- lists of messages
 
@@ -65,6 +70,11 @@ listed-cons : {X : Type 0} (f : ℕ → X) (n : ℕ) {y : X} {ys : List X} → l
 unfolding listed
 listed-cons f zero e = nil≢cons e
 listed-cons f (suc n) e = (omega arith, same-first e)
+
+listed-length : {X : Type 0} (f : ℕ → X) (n : ℕ) → length (listed f n) ≡ n
+unfolding listed
+listed-length f zero = refl
+listed-length f (suc n) = ap suc (listed-length (λ k. f (suc k)) n)
 
 listed-nil : {X : Type 0} (f : ℕ → X) (n : ℕ) → listed f n ≡ [] → n ≡ 0
 unfolding listed
@@ -100,6 +110,15 @@ least p n m r i (found {i = j} h e below) r< e′ = rw (lt-ltb j n h) (go (decLt
     go (no not-less) = omega arith
 least p n m r i (nowhere f) r< e = absurd (true≢false (sym e ∙ f r r<))
 
+-- ---- views
+
+view-end : (w : View) → Dec (w ≡ v-end)
+view-end v-end = yes refl
+view-end (v-send q arms) = no (λ e. end≢send e refl)
+view-end (v-receive q arms) = no (λ e. end≢receive e refl)
+view-end (v-loop x) = no (λ e. end≢loop e refl)
+view-end (v-back x) = no (λ e. end≢back e refl)
+
 -- ---- moves
 
 module _ (view : ℕ → ℕ → View) (head : ℕ → ℕ → ℕ) where
@@ -118,12 +137,19 @@ module _ (lim : Limits) (ts : List ℕ) (roles : ℕ) (ground : Ground lim ts ro
       let (h, f) = listed-cons (messageAt lim s p q) (held lim s p q) (only-cons (arePair roles p q) (contents lim s p q) e) in
       (h, ap (λ m. m .0) f, ap (λ m. m .1) f)
 
-  queue-empty : (p q : ℕ) → Pair roles p q → configOf lim roles s .queue p q ≡ [] → held lim s p q ≡ 0
+  pub queue-empty : (p q : ℕ) → Pair roles p q → configOf lim roles s .queue p q ≡ [] → held lim s p q ≡ 0
   queue-empty p q two e = listed-nil (messageAt lim s p q) (held lim s p q) (sym (queue-of lim roles p q s two) ∙ e)
+
+  no-self : (p q : ℕ) → p < roles → q < roles → p ≡ q → held lim s p q ≡ 0
+  no-self p q h i e =
+      inv .kept .no-pair p q (omega (arith, ground .few-roles)) (omega (arith, ground .few-roles)) (rw (e, lt-ltb q roles i, eq-eqb q q refl))
+
+  stands-at : (r : ℕ) (w : PartRow) → r < roles → partRow ts roles r (headOf s r) ≡ w → standsAt lim ts roles s r ≡ look ts roles r (headOf s r) w
+  stands-at r w h e = stands-row lim ts roles s (ground .tables) (ground .good) (inv .kept) r w h e
 
   -- ---- accepted exactly when allowed
 
-  allowed-send : (p q l v : ℕ) → Allows G (send p q l v) → (c : ℕ) × Does (send p q l v) (standsAt lim ts roles s p) c
+  pub allowed-send : (p q l v : ℕ) → Allows G (send p q l v) → (c : ℕ) × Does (send p q l v) (standsAt lim ts roles s p) c
   allowed-send p q l v t =
       let (c′, m, g) = preservation (viewOf ts roles) (head ts roles) (configOf lim roles s) (t .1) (inv .agrees) in
       moves-send (viewOf ts roles) (head ts roles) m
@@ -169,6 +195,42 @@ module _ (lim : Limits) (ts : List ℕ) (roles : ℕ) (ground : Ground lim ts ro
   call-not (sends p q l v) = send-not (the-send lim ts roles ground s G inv p q l v)
   call-not (receives p q) = receive-not (the-receive lim ts roles ground s G inv p q)
 
+  -- ---- who has ended
+
+  end-row : (r : ℕ) → r < roles → (w : PartRow) → partRow ts roles r (headOf s r) ≡ w → isHead w ≡ true
+      → rowHolds lim ts roles r (headOf s r) w ≡ true → standsAt lim ts roles s r ≡ v-end → w ≡ End 0 0 0
+  unfolding rowHolds
+  end-row r h (End a b c) e acts row at =
+      let (e₁, f₁) = both (eqb a 0 && eqb b 0) (eqb c 0) row in
+      let (e₂, f₂) = both (eqb a 0) (eqb b 0) e₁ in
+      rw (eqb-true a 0 e₂, eqb-true b 0 f₂, eqb-true c 0 f₁)
+  end-row r h (Arm l c n) e acts row at = absurd (true≢false (sym acts))
+  end-row r h (Loop b x y) e acts row at = absurd (true≢false (sym acts))
+  end-row r h (Back j x y) e acts row at = absurd (true≢false (sym acts))
+  end-row r h (Send q f x) e acts row at = absurd (end≢send at (stands-at r (Send q f x) h e))
+  end-row r h (Receive q f x) e acts row at = absurd (end≢receive at (stands-at r (Receive q f x) h e))
+  end-row r h Other e acts row at = absurd (true≢false (sym acts))
+
+  pub stands-end : (r : ℕ) → r < roles → standsAt lim ts roles s r ≡ v-end → partRow ts roles r (headOf s r) ≡ End 0 0 0
+  stands-end r h at =
+      end-row r h (partRow ts roles r (headOf s r)) refl (inv .kept .heads-act r h)
+      (holds lim ts roles r (λ x i. ground .good r x h i) (headOf s r) (inv .kept .heads-in r h)) at
+
+  ended-left : (r : ℕ) → r < roles → (partRow ts roles r (headOf s r) ≡ End 0 0 0) ↔ NothingLeft r G
+  ended-left r h = (
+    λ e. end-left (viewOf ts roles r) (head ts roles r) (inv .agrees .covered r 1) one≢0 (stands-at r (End 0 0 0) h e),
+    λ f. stands-end r h (left-ends (viewOf ts roles r) (head ts roles r) (inv .agrees .covered r 1) one≢0 f),
+  )
+
+  -- ---- what the queues hold
+
+  pub count-held : {w : List (ℕ × ℕ)} (p q : ℕ) → p < roles → q < roles → Holds p q G w → Dec (p ≡ q) → held lim s p q ≡ length w
+  count-held p q h i f (yes e) =
+      let none = no-self p q h i e in none ∙ sym (ap length (holds-once f (inv .agrees .held p q) ∙ fresh-queue lim roles s p q none))
+  count-held p q h i f (no n) =
+      let two : Pair roles p q = record { sender-in = h; receiver-in = i; different = n } in
+      sym (ap length (holds-once f (inv .agrees .held p q) ∙ queue-of lim roles p q s two) ∙ listed-length (messageAt lim s p q) (held lim s p q))
+
   -- ---- somebody is awaited until all have ended
 
   moving : (a : Action ℕ) (c′ : Config ℕ) → Moves (viewOf ts roles) (head ts roles) (configOf lim roles s) a c′
@@ -180,12 +242,12 @@ module _ (lim : Limits) (ts : List ℕ) (roles : ℕ) (ground : Ground lim ts ro
       let two = sending lim ts roles s (ground .tables) (ground .good) (inv .kept) p q arms e .pair in
       let none-held : held lim s p q ≡ 0 = queue-empty p q two (alone is-send) in
       let ok = send-is-accepted lim ts roles ground s G inv (the-send lim ts roles ground s G inv p q l v) c d (omega arith) in
-      (p, two .sender-in, has-call-awaited lim ts roles ground s G inv p (sends p q l v, refl, ok))
+      (p, two .sender-in, has-call-awaited lim ts roles ground s G inv {may = Every} p (sends p q l v, every, refl, ok))
   moving (receive p q l v) c′ m alone =
       let (c, w, d, e) = moves-receive (viewOf ts roles) (head ts roles) m in
       let (some-held, f, g) = queue-held p q e in
       let ok = receive-is-accepted lim ts roles ground s G inv (the-receive lim ts roles ground s G inv p q) l v c d some-held in
-      (q, here (the-receive lim ts roles ground s G inv p q) ok, has-call-awaited lim ts roles ground s G inv q (receives p q, refl, ok))
+      (q, here (the-receive lim ts roles ground s G inv p q) ok, has-call-awaited lim ts roles ground s G inv {may = Every} q (receives p q, every, refl, ok))
     where
       here : {a : Answer} → ReceiveCase lim ts roles s p q a → a .number ≡ ACCEPTED → q < roles
       here (receive-refused n cannot) ok = absurd (plain n .not-accepted ok)
@@ -199,36 +261,20 @@ module _ (lim : Limits) (ts : List ℕ) (roles : ℕ) (ground : Ground lim ts ro
     all-done : Unfinished {A = ℕ} (viewOf ts roles) (head ts roles) (configOf lim roles s) → ⊥
     all-done t = let (r, h, e) = somebody t in true≢false (sym e ∙ none r h)
 
-    ended-row : (r : ℕ) → r < roles → (w : PartRow) → partRow ts roles r (headOf s r) ≡ w → isHead w ≡ true
-        → rowHolds lim ts roles r (headOf s r) w ≡ true → w ≡ End 0 0 0
-    unfolding rowHolds
-    ended-row r h (End a b c) e acts row =
-        let (e₁, f₁) = both (eqb a 0 && eqb b 0) (eqb c 0) row in
-        let (e₂, f₂) = both (eqb a 0) (eqb b 0) e₁ in
-        rw (eqb-true a 0 e₂, eqb-true b 0 f₂, eqb-true c 0 f₁)
-    ended-row r h (Arm l c n) e acts row = absurd (true≢false (sym acts))
-    ended-row r h (Loop b x y) e acts row = absurd (true≢false (sym acts))
-    ended-row r h (Back j x y) e acts row = absurd (true≢false (sym acts))
-    ended-row r h (Send q f x) e acts row =
-        let at = stands-row lim ts roles s (ground .tables) (ground .good) (inv .kept) r (Send q f x) h e in
-        absurd (all-done (inl (r, λ t. end≢send t at)))
-    ended-row r h (Receive q f x) e acts row =
-        let at = stands-row lim ts roles s (ground .tables) (ground .good) (inv .kept) r (Receive q f x) h e in
-        absurd (all-done (inl (r, λ t. end≢receive t at)))
-    ended-row r h Other e acts row = absurd (true≢false (sym acts))
+    ended-now : (r : ℕ) → r < roles → Dec (standsAt lim ts roles s r ≡ v-end) → partRow ts roles r (headOf s r) ≡ End 0 0 0
+    ended-now r h (yes at) = stands-end r h at
+    ended-now r h (no n) = absurd (all-done (inl (r, n)))
 
     no-message : (p q : ℕ) → p < roles → q < roles → Dec (held lim s p q ≡ 0) → Dec (p ≡ q) → held lim s p q ≡ 0
     no-message p q h i (yes e) d = e
-    no-message p q h i (no n) (yes e) =
-        inv .kept .no-pair p q (omega (arith, ground .few-roles)) (omega (arith, ground .few-roles)) (rw (e, lt-ltb q roles i, eq-eqb q q refl))
+    no-message p q h i (no n) (yes e) = no-self p q h i e
     no-message p q h i (no n) (no m) =
         let two : Pair roles p q = record { sender-in = h; receiver-in = i; different = m } in
         absurd (all-done (inr (p, q, λ e. n (queue-empty p q two e))))
 
     pub finished : Finished (ours lim ts roles) roles s
     finished = record {
-      ended = λ r h. ended-row r h (partRow ts roles r (headOf s r)) refl (inv .kept .heads-act r h)
-          (holds lim ts roles r (λ x i. ground .good r x h i) (headOf s r) (inv .kept .heads-in r h));
+      ended = λ r h. ended-now r h (view-end (standsAt lim ts roles s r));
       empty = λ p q h i. no-message p q h i (ℕ-discrete (held lim s p q) 0) (ℕ-discrete p q);
     }
 
@@ -240,26 +286,26 @@ module _ (lim : Limits) (ts : List ℕ) (roles : ℕ) (ground : Ground lim ts ro
   unfolding awaitedOf
   set-is = rw (ground .tables, state-good lim ts roles s (inv .kept))
 
-  pub followed : Follows lim (ours lim ts roles) roles s G
+  pub followed : {may : Call → Type 0} → Enough lim may → Follows lim may (ours lim ts roles) roles s G
   unfolding awaitedOf answerTo
-  followed = record {
-    send-exactly = λ p q l v. (
+  followed enough = record {
+    send-exactly = λ p q l v _. (
       λ ok. sent-allowed p q l v (outcome lim ts roles ground s G inv (sends p q l v)) (the-send lim ts roles ground s G inv p q l v) ok,
       λ t. let (c, d) = allowed-send p q l v (t .0) in
           send-is-accepted lim ts roles ground s G inv (the-send lim ts roles ground s G inv p q l v) c d (t .1),
     );
-    receive-exactly = λ p q. (
+    receive-exactly = λ p q _. (
       λ ok. received-allowed p q (outcome lim ts roles ground s G inv (receives p q)) ok,
       λ t. let (c, w, d, e) = allowed-receive p q (t .0) (t .1) (t .2) in
           receive-is-accepted lim ts roles ground s G inv (the-receive lim ts roles ground s G inv p q) (t .0) (t .1) c d (queue-held p q e .0),
     );
-    receive-returns = λ p q l v t.
+    receive-returns = λ p q l v _ t.
         let (c, w, d, e) = allowed-receive p q l v t in returned (the-receive lim ts roles ground s G inv p q) c d e;
-    never-stray = λ p q. receive-not-stray (the-receive lim ts roles ground s G inv p q);
-    never-tables = λ c. call-not c .0;
-    never-state = λ c. call-not c .1;
+    never-stray = λ p q _. receive-not-stray (the-receive lim ts roles ground s G inv p q);
+    never-tables = λ c _. call-not c .0;
+    never-state = λ c _. call-not c .1;
     awaited = isAwaited lim ts roles s;
-    awaited-exactly = λ r h. (awaited-has-call lim ts roles ground s G inv r h, has-call-awaited lim ts roles ground s G inv r);
+    awaited-exactly = λ r h. (awaited-has-call lim ts roles ground s G inv enough r h, has-call-awaited lim ts roles ground s G inv r);
     awaited-number = rw (ground .tables, state-good lim ts roles s (inv .kept));
     awaited-set = set-is;
     awaited-count = rw (ground .tables, state-good lim ts roles s (inv .kept));
@@ -269,6 +315,7 @@ module _ (lim : Limits) (ts : List ℕ) (roles : ℕ) (ground : Ground lim ts ro
         (lowest-is (isAwaited lim ts roles s) roles) h e);
     awaited-none = λ f.
         rw (ground .tables, state-good lim ts roles s (inv .kept), lowest-none (isAwaited lim ts roles s) roles f, le-ltb roles roles (omega arith));
+    ended-exactly = ended-left;
     until-finished = λ not-yet e. not-yet (finished (nobody (isAwaited lim ts roles s) roles (sym set-is ∙ e)));
     when-finished = λ f. set-is ∙ empty-set (isAwaited lim ts roles s) roles (finished-none f);
   }

@@ -18,7 +18,7 @@ use Rattle.session.specs.declared.Answer.{Answer}
 use Rattle.session.specs.declared.Session.{Session}
 use Rattle.blocks.proofs.Sound.{Reached}
 use Rattle.protocol.specs.Steps.{send, receive, Step}
-use Rattle.protocol.specs.Engine.{Call, sends, receives, answerTo, reply, ours}
+use Rattle.protocol.specs.Engine.{Call, sends, receives, Engine, answerTo, reply, ours}
 use Rattle.protocol.specs.Demand3.{after, stepOf, ComesTo, no-call, accepted-call, refused-call}
 use Rattle.protocol.proofs.Determined.{determined}
 use Rattle.protocol.proofs.Invariant.View.{v-send, v-receive, Does, of-send, of-receive}
@@ -74,7 +74,7 @@ module _ (lim : Limits) (ts : List ℕ) (roles : ℕ) (ground : Ground lim ts ro
   at-receive p q arms e = receiving lim ts roles s (ground .tables) (ground .good) (inv .kept) p q arms e
 
   -- where an action leads
-  send-target : (p q l v c : ℕ) → Does (send p q l v) (standsAt lim ts roles s p) c → Reached lim ts roles p l c
+  pub send-target : (p q l v c : ℕ) → Does (send p q l v) (standsAt lim ts roles s p) c → Reached lim ts roles p l c
   send-target p q l v c d =
       let (arms, e, f) = of-send d in
       let at = at-send p q arms e in
@@ -154,6 +154,14 @@ module _ (lim : Limits) (ts : List ℕ) (roles : ℕ) (ground : Ground lim ts ro
   outcome (sends p q l v) = send-outcome p q l v (the-send p q l v)
   outcome (receives p q) = receive-outcome p q (the-receive p q)
 
+-- any engine's calls bring the protocol to one tree only
+pub comes-once : {S : Type 0} {e : Engine S} {cs : List Call} {s : S} {G H K : Global ℕ} → ComesTo e s G cs H → ComesTo e s G cs K → H ≡ K
+comes-once no-call no-call = refl
+comes-once (accepted-call n step t) (accepted-call m step′ u) = comes-once t (rw (determined step′ step) at u)
+comes-once (accepted-call n step t) (refused-call m u) = absurd (m n)
+comes-once (refused-call n t) (accepted-call m step u) = absurd (n m)
+comes-once (refused-call n t) (refused-call m u) = comes-once t u
+
 module _ (lim : Limits) (ts : List ℕ) (roles : ℕ) (ground : Ground lim ts roles) where
   -- every list of calls brings the protocol somewhere
   pub comes-to : (cs : List Call) (s : Session) (G : Global ℕ) → Inv lim ts roles s G → (H : Global ℕ) × ComesTo (ours lim ts roles) s G cs H
@@ -166,14 +174,6 @@ module _ (lim : Limits) (ts : List ℕ) (roles : ℕ) (ground : Ground lim ts ro
           → (H : Global ℕ) × ComesTo (ours lim ts roles) s G (c ∷ cs) H
       go (refused n e) rest = let (H, t) = rest G (rw e inv) in (H, refused-call {H = H} n t)
       go (accepted G′ n step i) rest = let (H, t) = rest G′ i in (H, accepted-call {H = H} n step t)
-
-  -- and to one tree only
-  pub comes-once : {cs : List Call} {s : Session} {G H K : Global ℕ} → ComesTo (ours lim ts roles) s G cs H → ComesTo (ours lim ts roles) s G cs K → H ≡ K
-  comes-once no-call no-call = refl
-  comes-once (accepted-call n step t) (accepted-call m step′ u) = comes-once t (rw (determined step′ step) at u)
-  comes-once (accepted-call n step t) (refused-call m u) = absurd (m n)
-  comes-once (refused-call n t) (accepted-call m step u) = absurd (n m)
-  comes-once (refused-call n t) (refused-call m u) = comes-once t u
 
   -- with which the session then agrees
   pub agrees-after : {cs : List Call} {s : Session} {G H : Global ℕ} → ComesTo (ours lim ts roles) s G cs H → Inv lim ts roles s G

@@ -11,9 +11,12 @@ use Rattle.parts.specs.Part.{Part, p-loop, PartArms}
 use Rattle.blocks.specs.Head.{ArmAt}
 use Rattle.protocol.specs.Steps.{SomeArm, some-arm}
 use Rattle.protocol.specs.Unrolled.{nth, backTo, close, closeArms, unrolled}
-use Rattle.protocol.proofs.Unrolled.{Each, each-nil, each-cons, close-inside, close-close, inside-close}
+use Rattle.protocol.specs.Left.{left-end, left-loop}
+use Rattle.protocol.specs.Each.{Each, each-nil, each-cons}
+use Rattle.protocol.proofs.Unrolled.{close-inside, close-close, inside-close}
 use Rattle.protocol.proofs.Invariant.View.{View}
-use Rattle.protocol.proofs.Invariant.Covers.{a-end, a-loop, Covers, c-zero, c-gone, c-send, c-receive, c-past, c-loop, CoversArms, ca-nil, ca-arm, CoversEach, ce-nil, ce-arm}
+use Rattle.protocol.proofs.Invariant.Left.{absent-left}
+use Rattle.protocol.proofs.Invariant.Covers.{Covers, c-zero, c-gone, c-send, c-receive, c-past, c-loop, CoversArms, ca-nil, ca-arm, CoversEach, ce-nil, ce-arm}
 use Rattle.protocol.proofs.Parts.Fits.{
   Fits,
   f-end,
@@ -100,12 +103,12 @@ module _ (A : Type 0) (view : ℕ → View) (head : ℕ → ℕ) (r : ℕ) where
       begin : {G : Global A} {M : Part} (n : ℕ) → ((m : ℕ) → m < n → Begins m) → Fits r G M → (row d : ℕ) (σ : List (Global A)) (ρ : List ℕ)
           → Encodes view row ρ M → Around n d σ ρ → Inside (length σ) G → ((j : ℕ) → j < d → HeadBack j M → ⊥)
           → Covers view head r n (close G 0 σ) (head row)
-      begin n ih f-end row d σ ρ (e-end e) env ins acts = c-gone a-end (ap view (heads .on-end row e) ∙ e)
+      begin n ih f-end row d σ ρ (e-end e) env ins acts = c-gone left-end (ap view (heads .on-end row e) ∙ e)
       begin n ih (f-back {k = k}) row d σ ρ (e-back {y = y} e t) env ins acts =
           let h : ¬ (k < d) = λ b. acts k b hb-back in
           rw (heads .on-back row y e) (around-at (back k) env t (omega arith))
       begin n ih (f-gone a i) row d σ ρ (e-end e) env ins acts =
-          rw (close-inside σ i) (c-gone (a-loop a) (ap view (heads .on-end row e) ∙ e))
+          rw (close-inside σ i) (c-gone (left-loop (absent-left a)) (ap view (heads .on-end row e) ∙ e))
       begin n ih (f-loop {B = B} {M = M} nb f) row d σ ρ (e-loop {y = y} e en) env (i-loop ins) acts =
           let is : Each (Inside 0) σ = around-inside env in
           let known : (m : ℕ) → m < n → Covers view head r m (loop (close B 1 σ)) (head row) =
