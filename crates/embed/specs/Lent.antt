@@ -42,6 +42,12 @@ pub record Handed (a : Answer) (number : ℕ) (heads counts labels payloads : Li
   pub labels-are : labels ≡ a .state .labels
   pub payloads-are : payloads ≡ a .state .payloads
 
+-- an answer of a receive handed over: label and payload besides
+pub record Delivered (a : Answer) (number label payload : ℕ) (heads counts labels payloads : List ℕ) : Type 0 where
+  pub handed : Handed a number heads counts labels payloads
+  pub label-is : label ≡ a .label
+  pub payload-is : payload ≡ a .payload
+
 -- a send and a receive over lent slices
 abbrev pub sendLent : Limits → List ℕ → ℕ → ℕ → ℕ → ℕ → ℕ → List ℕ → List ℕ → List ℕ → List ℕ → Answer
 sendLent lim ts roles p q l v = lentCall lim ts roles (sendOf lim ts roles p q l v)

@@ -1,11 +1,11 @@
 // The C boundary: numbers and slices only. A state is lent as four slices of any lengths; it is copied in, the session's call is
 // made, and what the call hands back is copied out.
 ghost use mathlib.Core.Path.{_≡_};
-ghost use lib.ListN.{length};
 ghost use Rattle.table.specs.Limits.{base};
-ghost use Rattle.opening.specs.Opening.{openOf, roomOf};
+ghost use Rattle.table.specs.Check.{says};
+ghost use Rattle.opening.specs.Opening.{Opens};
 ghost use Rattle.session.specs.Calls.{answers, freshOf, sendOf, receiveOf};
-ghost use Rattle.embed.specs.Lent.{wrongNumber, freshLent, sendLent, receiveLent, awaitedLent, Handed, Told};
+ghost use Rattle.embed.specs.Lent.{wrongNumber, freshLent, sendLent, receiveLent, awaitedLent, Handed, Delivered, Told};
 ghost use Rattle.embed.specs.mirror.Given.{givenCall};
 use blocks::tables;
 use lent::Given;
@@ -82,9 +82,7 @@ pub extern "C" fn gaugetwinkle_open(
     room: &mut [u16],
     place: &mut usize,
 ) -> u8
-    ensures { λ r. ⌜ (r ≡ openOf base (now (table .entry)) roles (length (now (room .entry))) .number)
-        × (now (place .exit) ≡ openOf base (now (table .entry)) roles (length (now (room .entry))) .place)
-        × (now (room .exit) ≡ roomOf base (now (table .entry)) roles (now (room .entry))) ⌝ }
+    ensures { λ r. ⌜ Opens base (now (table .entry)) roles (now (room .entry)) (says r (now (place .exit))) (now (room .exit)) ⌝ }
 {
     let verdict = opening::open(table, roles, room);
     *place = verdict.place;
@@ -147,10 +145,8 @@ pub extern "C" fn gaugetwinkle_receive(
     labels: &mut [u8],
     payloads: &mut [u32],
 ) -> u8
-    ensures { λ r. ⌜ Handed (receiveLent base (now (tables .entry)) roles sender receiver (now (heads .entry)) (now (counts .entry)) (now (labels .entry)) (now (payloads .entry)))
-        r (now (heads .exit)) (now (counts .exit)) (now (labels .exit)) (now (payloads .exit))
-        × (now (label .exit) ≡ receiveLent base (now (tables .entry)) roles sender receiver (now (heads .entry)) (now (counts .entry)) (now (labels .entry)) (now (payloads .entry)) .label)
-        × (now (payload .exit) ≡ receiveLent base (now (tables .entry)) roles sender receiver (now (heads .entry)) (now (counts .entry)) (now (labels .entry)) (now (payloads .entry)) .payload) ⌝ }
+    ensures { λ r. ⌜ Delivered (receiveLent base (now (tables .entry)) roles sender receiver (now (heads .entry)) (now (counts .entry)) (now (labels .entry)) (now (payloads .entry)))
+        r (now (label .exit)) (now (payload .exit)) (now (heads .exit)) (now (counts .exit)) (now (labels .exit)) (now (payloads .exit)) ⌝ }
 {
     let given = lent::taken(heads, counts, labels, payloads);
     let answer = received(given, tables, roles, sender, receiver);

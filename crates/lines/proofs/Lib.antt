@@ -6,3 +6,4 @@ pub mod ReadBack
 pub mod Reading
 pub mod Stores
 pub mod Texts
+pub mod Promises

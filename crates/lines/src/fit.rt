@@ -1,31 +1,29 @@
 // Numbers as words or bytes, if all fit.
 ghost use mathlib.Core.Path.{_≡_};
-ghost use Prim.Native.Nat.{_≤_, min};
-ghost use lib.ListN.{length};
-ghost use Rattle.io.specs.Counts.{Counts};
-ghost use Rattle.lines.specs.Over.{over, behind, allBelow, fits, narrowed};
+ghost use Rattle.lines.specs.Over.{allBelow};
+ghost use Rattle.lines.specs.Promises.{Puts, Narrows, Copies, Least, Cuts};
 
 pub fn least(a: usize, b: usize) -> usize
-    ensures { λ r. ⌜ (r ≤ a) × (r ≤ b) × (r ≡ min a b) ⌝ }
+    ensures { λ r. ⌜ Least a b r ⌝ }
 {
     if a < b { a } else { b }
 }
 
 // `n`, or the length where that is less. The contract is what `&words[..n]` asks.
 pub fn cut_words(words: &[u16], n: usize) -> usize
-    ensures { λ r. ⌜ Counts r (now (words .entry)) × (r ≤ n) × (r ≡ min n (length (now (words .entry)))) ⌝ }
+    ensures { λ r. ⌜ Cuts (now (words .entry)) n r ⌝ }
 {
     least(n, words.len())
 }
 
 pub fn cut_numbers(numbers: &[u32], n: usize) -> usize
-    ensures { λ r. ⌜ Counts r (now (numbers .entry)) × (r ≤ n) × (r ≡ min n (length (now (numbers .entry)))) ⌝ }
+    ensures { λ r. ⌜ Cuts (now (numbers .entry)) n r ⌝ }
 {
     least(n, numbers.len())
 }
 
 pub fn cut_bytes(bytes: &[u8], n: usize) -> usize
-    ensures { λ r. ⌜ Counts r (now (bytes .entry)) × (r ≤ n) × (r ≡ min n (length (now (bytes .entry)))) ⌝ }
+    ensures { λ r. ⌜ Cuts (now (bytes .entry)) n r ⌝ }
 {
     least(n, bytes.len())
 }
@@ -54,8 +52,7 @@ fn all_below(numbers: &[u32], bound: u32) -> bool
 // The numbers as words at the start of `out`. False where one is wider than a word, or there are more than `out` holds: then
 // nothing is written.
 pub fn words(numbers: &[u32], out: &mut [u16]) -> bool
-    ensures { λ r. ⌜ (r ≡ fits 65536 (now (numbers .entry)) (now (out .entry)))
-        × (now (out .exit) ≡ narrowed 65536 (now (numbers .entry)) (now (out .entry))) ⌝ }
+    ensures { λ r. ⌜ Narrows 65536 (now (numbers .entry)) (now (out .entry)) r (now (out .exit)) ⌝ }
 {
     if out.len() < numbers.len() {
         return false;
@@ -74,8 +71,7 @@ pub fn words(numbers: &[u32], out: &mut [u16]) -> bool
 // The numbers as bytes at the start of `out`. False where one is wider than a byte, or there are more than `out` holds: then
 // nothing is written.
 pub fn bytes(numbers: &[u32], out: &mut [u8]) -> bool
-    ensures { λ r. ⌜ (r ≡ fits 256 (now (numbers .entry)) (now (out .entry)))
-        × (now (out .exit) ≡ narrowed 256 (now (numbers .entry)) (now (out .entry))) ⌝ }
+    ensures { λ r. ⌜ Narrows 256 (now (numbers .entry)) (now (out .entry)) r (now (out .exit)) ⌝ }
 {
     if out.len() < numbers.len() {
         return false;
@@ -93,8 +89,7 @@ pub fn bytes(numbers: &[u32], out: &mut [u8]) -> bool
 
 // The words as numbers from place `at` of `out` on, as many as it holds. Answers the place after the last.
 pub fn wide(words: &[u16], out: &mut [u32], at: usize) -> usize
-    ensures { λ r. ⌜ (r ≡ behind at (now (words .entry)) (now (out .entry)))
-        × (now (out .exit) ≡ over at (now (words .entry)) (now (out .entry))) ⌝ }
+    ensures { λ r. ⌜ Puts at (now (words .entry)) (now (out .entry)) r (now (out .exit)) ⌝ }
 {
     if out.len() < at {
         return at;
@@ -110,7 +105,7 @@ pub fn wide(words: &[u16], out: &mut [u32], at: usize) -> usize
 
 // The numbers themselves at the start of `out`, as many as it holds.
 pub fn copy(numbers: &[u32], out: &mut [u32])
-    ensures { λ _. ⌜ now (out .exit) ≡ over 0 (now (numbers .entry)) (now (out .entry)) ⌝ }
+    ensures { λ _. ⌜ Copies (now (numbers .entry)) (now (out .entry)) (now (out .exit)) ⌝ }
 {
     let count = least(numbers.len(), out.len());
     let mut i = 0;

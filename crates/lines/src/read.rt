@@ -1,10 +1,6 @@
 // The numbers of a line: after its letter, for each number one blank and one or more digits.
 ghost use mathlib.Core.Path.{_≡_};
-ghost use mathlib.Core.Bool.{cond};
-ghost use lib.Dec.{leb};
-ghost use lib.ListN.{length};
-ghost use Rattle.lines.specs.Line.{numbersOf, countOf};
-ghost use Rattle.lines.specs.Over.{over, behind};
+ghost use Rattle.lines.specs.Promises.{Puts, Reads};
 ghost use Rattle.lines.specs.mirror.Places.{digitOf, stepOf, endedOf, wholeOf};
 
 // How many numbers a line has.
@@ -59,8 +55,7 @@ fn step(place: Place, byte: u8) -> Place
 
 // A number ends at a blank and is stored at place `at`. Answers the place after it.
 fn store(out: &mut [u32], at: usize, place: Place, byte: u8) -> usize
-    ensures { λ r. ⌜ (r ≡ behind at (endedOf place byte) (now (out .entry)))
-        × (now (out .exit) ≡ over at (endedOf place byte) (now (out .entry))) ⌝ }
+    ensures { λ r. ⌜ Puts at (endedOf place byte) (now (out .entry)) r (now (out .exit)) ⌝ }
 {
     if byte != b' ' {
         return at;
@@ -94,10 +89,7 @@ fn whole(place: Place) -> bool
 // The numbers after the letter of the line, at the start of `out`; of a malformed line those before its fault. A line that is
 // longer than `out` counts as malformed, and none of its numbers is stored.
 pub fn numbers(line: &[u8], out: &mut [u32]) -> Count
-    ensures { λ r. ⌜ (r ≡ countOf (now (line .entry)) (length (now (out .entry))))
-        × (now (out .exit) ≡ cond (leb (length (now (line .entry))) (length (now (out .entry))))
-        (over 0 (numbersOf (now (line .entry))) (now (out .entry)))
-        (now (out .entry))) ⌝ }
+    ensures { λ r. ⌜ Reads (now (line .entry)) (now (out .entry)) r (now (out .exit)) ⌝ }
 {
     if line.len() == 0 {
         return Count::Malformed;

@@ -2,15 +2,13 @@
 ghost use mathlib.Core.Path.{_≡_};
 ghost use mathlib.Core.Bool.{cond};
 ghost use mathlib.Core.List.{[], _∷_};
-ghost use Prim.Native.Nat.{_≤_, min};
 ghost use lib.Dec.{ltb};
-ghost use lib.ListN.{length};
-ghost use Rattle.lines.specs.Over.{over, behind};
-ghost use Rattle.lines.specs.Text.{decimal, textOf};
+ghost use Rattle.lines.specs.Text.{decimal};
+ghost use Rattle.lines.specs.Promises.{Puts, Writes};
 
 // The byte at place `at`. Each of these answers the place behind what it wrote.
 fn put(out: &mut [u8], at: usize, byte: u8) -> usize
-    ensures { λ r. ⌜ (r ≡ behind at (byte ∷ []) (now (out .entry))) × (now (out .exit) ≡ over at (byte ∷ []) (now (out .entry))) ⌝ }
+    ensures { λ r. ⌜ Puts at (byte ∷ []) (now (out .entry)) r (now (out .exit)) ⌝ }
 {
     if at < out.len() {
         out[at] = byte;
@@ -21,8 +19,7 @@ fn put(out: &mut [u8], at: usize, byte: u8) -> usize
 }
 
 fn put_all(out: &mut [u8], at: usize, bytes: &[u8]) -> usize
-    ensures { λ r. ⌜ (r ≡ behind at (now (bytes .entry)) (now (out .entry)))
-        × (now (out .exit) ≡ over at (now (bytes .entry)) (now (out .entry))) ⌝ }
+    ensures { λ r. ⌜ Puts at (now (bytes .entry)) (now (out .entry)) r (now (out .exit)) ⌝ }
 {
     let mut end = at;
     let mut i = 0;
@@ -34,7 +31,7 @@ fn put_all(out: &mut [u8], at: usize, bytes: &[u8]) -> usize
 }
 
 fn put_number(out: &mut [u8], at: usize, n: u32) -> usize
-    ensures { λ r. ⌜ (r ≡ behind at (decimal n) (now (out .entry))) × (now (out .exit) ≡ over at (decimal n) (now (out .entry))) ⌝ }
+    ensures { λ r. ⌜ Puts at (decimal n) (now (out .entry)) r (now (out .exit)) ⌝ }
 {
     let mut digits = [0u8; 20];
     let count = io::decimal(n as u64, &mut digits);
@@ -50,9 +47,7 @@ fn mark(next: usize, count: usize) -> u8
 
 // Writes the numbers to the start of `out`, and answers how many bytes that took.
 pub fn text(numbers: &[u32], out: &mut [u8]) -> usize
-    ensures { λ r. ⌜ (r ≤ length (now (out .exit)))
-        × (r ≡ min (length (textOf (now (numbers .entry)))) (length (now (out .entry))))
-        × (now (out .exit) ≡ over 0 (textOf (now (numbers .entry))) (now (out .entry))) ⌝ }
+    ensures { λ r. ⌜ Writes (now (numbers .entry)) (now (out .entry)) r (now (out .exit)) ⌝ }
 {
     let mut at = 0;
     let mut i = 0;

@@ -2,6 +2,7 @@
 use Prim.Native.Nat.{ℕ, zero, suc, _*_}
 use mathlib.Core.Bool.{cond, not}
 use mathlib.Core.List.{List, [], _++_}
+use mathlib.Core.Path.{_≡_}
 use lib.Dec.{ltb, eqb}
 use lib.ListN.{length, drop}
 use Rattle.table.specs.Limits.{Limits}
@@ -31,3 +32,7 @@ unfoldable pub roomOf : Limits → List ℕ → ℕ → List ℕ → List ℕ
 unfolding openOf blocks
 roomOf lim t roles room =
     cond (eqb (openOf lim t roles (length room) .number) ACCEPTED) (blocks t roles ++ drop (roles * length t) room) room
+
+-- what an opening promises, for every input: the verdict, and each word of the room afterwards
+abbrev pub Opens : Limits → List ℕ → ℕ → List ℕ → Verdict → List ℕ → Type 0
+Opens lim t roles room v after = (v ≡ openOf lim t roles (length room)) × (after ≡ roomOf lim t roles room)

@@ -6,7 +6,7 @@ ghost use mathlib.Core.List.{_++_};
 ghost use Prim.Native.Nat.{_*_};
 ghost use lib.ListN.{length, drop};
 ghost use Rattle.table.specs.Limits.{base};
-ghost use Rattle.opening.specs.Opening.{openOf, blocks, roomOf};
+ghost use Rattle.opening.specs.Opening.{openOf, blocks, Opens};
 ghost use Rattle.opening.specs.mirror.Ready.{Ready};
 use table::Table;
 use table::Verdict;
@@ -66,8 +66,7 @@ fn fill(table: &[u16], roles: usize, parts: &[u16], room: &mut [u16])
 
 // Opens a table: the answer, and the room with every role's part, or as it was.
 pub fn open(table: &[u16], roles: usize, room: &mut [u16]) -> Verdict
-    ensures { λ r. ⌜ (r ≡ openOf base (now (table .entry)) roles (length (now (room .entry))))
-        × (now (room .exit) ≡ roomOf base (now (table .entry)) roles (now (room .entry))) ⌝ }
+    ensures { λ r. ⌜ Opens base (now (table .entry)) roles (now (room .entry)) r (now (room .exit)) ⌝ }
 {
     let mut parts = [0u16; PARTS];
     let answer = verdict(table, roles, room.len(), &mut parts);

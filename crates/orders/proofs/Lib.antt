@@ -5,3 +5,4 @@ pub mod Reading
 pub mod Replies
 pub mod Settings
 pub mod Showing
+pub mod Promises

@@ -2,6 +2,7 @@
 use Prim.Native.Nat.{ℕ}
 use mathlib.Core.Bool.{Bool, cond, _&&_}
 use mathlib.Core.List.{List, [], _∷_}
+use mathlib.Core.Path.{_≡_}
 use lib.Dec.{leb}
 use lib.ListN.{length, getD, take}
 use Rattle.table.specs.Limits.{Limits}
@@ -46,3 +47,12 @@ writes a ws text = record { text = take (a .length) text; kept = keeps (a .run) 
 -- what the code keeps at the start, over any words
 abbrev pub firstRun : Limits → Run
 firstRun lim = record { roles = 0; words = 0; state = nothing lim }
+
+-- what the start promises, and what the answer to a line does: the bytes, how many they are, and what is kept. Of the words behind the
+-- tables' last one and of the bytes behind the text's last one nothing is said
+abbrev pub Starts : Limits → Run → Type 0
+Starts lim run = run ≡ firstRun lim
+
+abbrev pub Answers : Limits → Run → List ℕ → List ℕ → Answered → List ℕ → List ℕ → Type 0
+Answers lim run ws line a after text =
+    let w = answerOf lim (keeps run ws) line in (writes a after text ≡ w) × (a .length ≡ length (w .text))

@@ -23,7 +23,7 @@ ghost use lib.ListN.{length, getD, take};
 ghost use Rattle.table.specs.Limits.{base};
 ghost use Rattle.lines.specs.Line.{numbersOf};
 ghost use Rattle.orders.specs.Orders.{orderOf};
-ghost use Rattle.orders.specs.Lines.{isLine, replyTo, answerOf, keeps, writes};
+ghost use Rattle.orders.specs.Lines.{isLine, keeps, Answers};
 ghost use Rattle.orders.specs.mirror.Said.{Says};
 
 // The letter of a line and how many numbers it has. No order has the letter 0, which stands for a line that is malformed.
@@ -73,8 +73,7 @@ pub fn answer(
     tables: &mut Words,
     text: &mut Text,
 ) -> Answered
-    ensures { λ r. ⌜ (writes r (now (tables .exit)) (now (text .exit)) ≡ answerOf base (keeps run (now (tables .entry))) (now (line .entry)))
-        × (r .length ≡ length (answerOf base (keeps run (now (tables .entry))) (now (line .entry)) .text)) ⌝ }
+    ensures { λ r. ⌜ Answers base run (now (tables .entry)) (now (line .entry)) r (now (tables .exit)) (now (text .exit)) ⌝ }
 {
     let given = taken(line, numbers);
     let said = order(given.letter, run, read::upto(numbers, given.count), tables);

@@ -3,7 +3,7 @@ use session::Session;
 use table::Table;
 ghost use mathlib.Core.Path.{_≡_};
 ghost use Rattle.table.specs.Limits.{base};
-ghost use Rattle.orders.specs.Lines.{firstRun};
+ghost use Rattle.orders.specs.Lines.{Starts};
 ghost use Rattle.orders.specs.mirror.Said.{saidNothing, saidOf};
 
 // The bytes of the longest line. It has fewer numbers than bytes.
@@ -53,7 +53,7 @@ pub struct Answered {
 }
 
 pub fn start() -> Run
-    ensures { λ r. ⌜ r ≡ firstRun base ⌝ }
+    ensures { λ r. ⌜ Starts base r ⌝ }
 {
     let state = Session {
         heads: [0u16; 8],

@@ -21,7 +21,7 @@ ghost use Rattle.table.specs.Numbers.{KIND, UNBOUND, UNGUARDED};
 ghost use Rattle.table.specs.Rows.{row as rowAt};
 ghost use Rattle.table.specs.Above.{above, loops as loopsOf};
 ghost use Rattle.table.specs.Rules.{namedBroken, unboundBroken, unguardedBroken, rules as rulesInOrder};
-ghost use Rattle.table.specs.Check.{accepted, tested, checkOf};
+ghost use Rattle.table.specs.Check.{accepted, tested, Checks};
 ghost use Rattle.table.specs.mirror.Names.{Rising, nearLoops};
 ghost use Rattle.rules.specs.mirror.Names.{Small, places, put, Namers, Counts, Around, Filled};
 ghost use Rattle.rules.specs.mirror.Chain.{repeatedOf, chainOf};
@@ -287,7 +287,7 @@ fn rules(words: &[u16], roles: usize) -> Verdict
 
 // Rules 1, 2 and 4 to 10 in order, each naming the lowest row that breaks it.
 pub fn check(words: &[u16], roles: usize) -> Verdict
-    ensures { λ r. ⌜ r ≡ checkOf base (now (words .entry)) roles ⌝ }
+    ensures { λ r. ⌜ Checks base (now (words .entry)) roles r ⌝ }
 {
     let sizes = Table::sizes(words, roles);
     if sizes.number != Verdict::ACCEPTED {

@@ -2,4 +2,5 @@ pub mod mirror
 pub mod State
 pub mod Calls
 pub mod Awaited
+pub mod Promises
 pub mod Refused

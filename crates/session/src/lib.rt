@@ -10,8 +10,7 @@ ghost use mathlib.Core.Path.{_≡_};
 ghost use Prim.Native.Nat.{_<_};
 ghost use Rattle.table.specs.Limits.{base};
 ghost use Rattle.session.specs.State.{held, moved, pushed};
-ghost use Rattle.session.specs.Calls.{freshOf, sendOf, receiveOf};
-ghost use Rattle.session.specs.Awaited.{awaitedOf};
+ghost use Rattle.session.specs.Promises.{Freshens, Sends, Receives, Awaits};
 ghost use Rattle.session.specs.mirror.Received.{received};
 
 // Each role's head row, and for each ordered pair of roles (sender x ROLES + receiver) a queue of DEPTH slots, the oldest message in
@@ -34,7 +33,7 @@ impl Session {
 
     // Every role at the head of row 0, the queues empty.
     pub fn fresh(tables: &[u16], roles: usize) -> Answer
-        ensures { λ r. ⌜ r ≡ freshOf base (now (tables .entry)) roles ⌝ }
+        ensures { λ r. ⌜ Freshens base (now (tables .entry)) roles r ⌝ }
     {
         // Tables that are not well formed have no rows here, and so every head is 0.
         let rows = tables::rows_of(tables, roles);
@@ -67,7 +66,7 @@ impl Session {
         label: usize,
         payload: u32,
     ) -> Answer
-        ensures { λ r. ⌜ r ≡ sendOf base (now (tables .entry)) roles sender receiver label payload self ⌝ }
+        ensures { λ r. ⌜ Sends base (now (tables .entry)) roles sender receiver label payload self r ⌝ }
     {
         let turn = calls::judge_send(
             tables,
@@ -120,7 +119,7 @@ impl Session {
 
     // The receiver takes the oldest message from the sender, and moves to the head of that arm's continuation.
     pub fn receive(self, tables: &[u16], roles: usize, sender: usize, receiver: usize) -> Answer
-        ensures { λ r. ⌜ r ≡ receiveOf base (now (tables .entry)) roles sender receiver self ⌝ }
+        ensures { λ r. ⌜ Receives base (now (tables .entry)) roles sender receiver self r ⌝ }
     {
         let turn = calls::judge_receive(
             tables,
@@ -163,7 +162,7 @@ impl Session {
 
     // The roles that have a call which would be accepted.
     pub fn awaited(self, tables: &[u16], roles: usize) -> Awaiting
-        ensures { λ r. ⌜ r ≡ awaitedOf base (now (tables .entry)) roles self ⌝ }
+        ensures { λ r. ⌜ Awaits base (now (tables .entry)) roles self r ⌝ }
     {
         let waiting = calls::awaited_roles(
             tables,

@@ -9,3 +9,4 @@ pub mod Trees
 pub mod Weight
 pub mod Claims
 pub mod Rowwise
+pub mod Promises

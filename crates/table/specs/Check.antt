@@ -2,6 +2,7 @@
 use Prim.Native.Nat.{ℕ}
 use mathlib.Core.Bool.{Bool, cond}
 use mathlib.Core.List.{List, [], _∷_}
+use mathlib.Core.Path.{_≡_}
 use lib.Dec.{ltb}
 use Rattle.words.specs.Below.{lowest}
 use Rattle.words.specs.Rows.{rowsOf}
@@ -36,3 +37,10 @@ tested lim t roles (k ∷ ks) rest = refusedAt (number k) (breaks lim t roles k)
 -- the check of a table: rules 1, 2 and 4 to 10
 unfoldable pub checkOf : Limits → List ℕ → ℕ → Verdict
 checkOf lim t roles = sized lim t roles (tested lim t roles rules accepted)
+
+-- what the test of a table's size promises, and what its check does, for every input: number and place
+abbrev pub Sizes : Limits → List ℕ → ℕ → Verdict → Type 0
+Sizes lim t roles v = v ≡ sized lim t roles accepted
+
+abbrev pub Checks : Limits → List ℕ → ℕ → Verdict → Type 0
+Checks lim t roles v = v ≡ checkOf lim t roles

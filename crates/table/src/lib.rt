@@ -5,7 +5,7 @@ ghost use mathlib.Core.Path.{_≡_};
 ghost use Rattle.table.specs.Limits.{base};
 ghost use Rattle.table.specs.Rows.{row as rowAt, rowOf};
 ghost use Rattle.table.specs.Rules.{kindBroken, fieldBroken, toArm, toOther, linkBroken};
-ghost use Rattle.table.specs.Check.{accepted, sized};
+ghost use Rattle.table.specs.Check.{Sizes};
 ghost use Rattle.table.specs.mirror.Names.{nearLink, farLink};
 
 // The size of a table whose words are lent beside it.
@@ -26,7 +26,7 @@ impl Table {
 
     // Rules 1 and 2: the length of the table and the number of its roles.
     pub fn sizes(words: &[u16], roles: usize) -> Verdict
-        ensures { λ r. ⌜ r ≡ sized base (now (words .entry)) roles accepted ⌝ }
+        ensures { λ r. ⌜ Sizes base (now (words .entry)) roles r ⌝ }
     {
         let length = words.len();
         if (length == 0) | (length % 4 != 0) | (Table::ROWS * 4 < length) {

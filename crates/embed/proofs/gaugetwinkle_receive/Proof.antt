@@ -35,13 +35,15 @@ returns c =
     let a = given .before .before .before .before .before .before .before .before .before .before .args in
     let call = receiveOf base (a .tables .now) (a .roles) (a .sender) (a .receiver) in
     let answer = said (a .tables .now) (a .roles) (a .heads .now) (a .counts .now) (a .labels .now) (a .payloads .now)
-    call _ (given .taken .ensures) _ (step .received .ensures) in (
-      handed (a .tables .now) (a .roles) (a .heads .now) (a .counts .now) (a .labels .now) (a .payloads .now)
+    call _ (given .taken .ensures) _ (step .received .ensures) in
+    record {
+      handed =
+          handed (a .tables .now) (a .roles) (a .heads .now) (a .counts .now) (a .labels .now) (a .payloads .now)
           call _ (given .taken .ensures) _ (step .received .ensures) _ _ _ _
-          (put .put-back .ensures .0) (put .put-back .ensures .1) (put .put-back .ensures .2) (put .put-back .ensures .3),
-      answer .1,
-      answer .2,
-    )
+          (put .put-back .ensures .0) (put .put-back .ensures .1) (put .put-back .ensures .2) (put .put-back .ensures .3);
+      label-is = answer .1;
+      payload-is = answer .2;
+    }
 
 pub gaugetwinkle-receive-spec : {M : Type 1} → statement M
 gaugetwinkle-receive-spec =
