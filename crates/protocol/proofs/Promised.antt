@@ -130,7 +130,7 @@ module _ (code : Code) (keeps : Promises code) (t : List ℕ) (roles : ℕ) (o :
 module _ (code : Code) (keeps : Promises code) (table : List ℕ) (roles : ℕ) (room : List ℕ) (wt : Words table) (sr : Size roles) (wr : Words room)
     (ok : code .verdict table roles room .number ≡ ACCEPTED) where
   opens : openOf base table roles (length room) ≡ check.accepted
-  opens = plain-open base table roles (length room) (ap (λ v. v .number) (sym (keeps .verdict table roles room wt sr wr)) ∙ ok)
+  opens = plain-open base table roles (length room) (ap (λ v. v .number) (sym (keeps .opening table roles room wt sr wr .0)) ∙ ok)
 
   is-open : Opened base table roles
   is-open = opened base table roles (length room) opens
@@ -140,7 +140,7 @@ module _ (code : Code) (keeps : Promises code) (table : List ℕ) (roles : ℕ) 
 
   written-there : take (roles * length table) (code .filled table roles room) ≡ blocks table roles
   written-there =
-      ap (take (roles * length table)) (keeps .filled table roles room wt sr wr)
+      ap (take (roles * length table)) (keeps .opening table roles room wt sr wr .1)
       ∙ written base table roles room opens (length-tables base table roles is-open is-kept)
 
   pub tables-fit : Words (take (roles * length table) (code .filled table roles room))
@@ -179,8 +179,7 @@ payload-fits (fits-send i j k h) = h
 
 pub elsewhere-promises : (code : Code) → Promises code → Promises (elsewhere code)
 elsewhere-promises code keeps = record {
-  verdict = λ t roles room i j k. rw (lt-ltb roles (2 ^ 64) j) (keeps .verdict t roles room i j k);
-  filled = keeps .filled;
+  opening = λ t roles room i j k. (rw (lt-ltb roles (2 ^ 64) j) (keeps .opening t roles room i j k .0), keeps .opening t roles room i j k .1);
   fresh = keeps .fresh;
   send = λ s ts roles p q l v i j k m. rw (lt-ltb v (2 ^ 32) (payload-fits m)) (keeps .send s ts roles p q l v i j k m);
   receive = keeps .receive;
@@ -200,8 +199,7 @@ spec = record {
 
 pub spec-promises : Promises spec
 spec-promises = record {
-  verdict = λ t roles room i j k. refl;
-  filled = λ t roles room i j k. refl;
+  opening = λ t roles room i j k. (refl, refl);
   fresh = λ ts roles i j. refl;
   send = λ s ts roles p q l v i j k m. refl;
   receive = λ s ts roles p q i j k m. refl;

@@ -7,7 +7,7 @@ use Rattle.protocol.specs.Refused.{CodeRefusedKeeps}
 
 pub code-refused-keeps : (code : Code) → Promises code → CodeRefusedKeeps code
 code-refused-keeps code keeps = record {
-  opening = λ t roles room i j k. rw (keeps .verdict t roles room i j k, keeps .filled t roles room i j k) (refused-room base t roles room);
+  opening = λ t roles room i j k. rw (keeps .opening t roles room i j k .0, keeps .opening t roles room i j k .1) (refused-room base t roles room);
   fresh = λ ts roles i j. rw (keeps .fresh ts roles i j) (refused-keeps base .fresh ts roles);
   send = λ s ts roles p q l v i j k m. rw (keeps .send s ts roles p q l v i j k m) (refused-keeps base .send s ts roles p q l v);
   receive = λ s ts roles p q i j k m. rw (keeps .receive s ts roles p q i j k m) (refused-keeps base .receive s ts roles p q);

@@ -255,7 +255,7 @@ module _ (code : Code) (keeps : Promises code) where
   t1-engine = engineOf code (take (2 * length t1) (code .filled t1 2 room)) 2
 
   t1-accepted : code .verdict t1 2 room .number ≡ ACCEPTED
-  t1-accepted = ap (λ v. v .number) (keeps .verdict t1 2 room t1-words (omega arith) room-words ∙ t1-opens)
+  t1-accepted = ap (λ v. v .number) (keeps .opening t1 2 room t1-words (omega arith) room-words .0 ∙ t1-opens)
 
   t1-conforms : Conforms base Fits t1-engine t1 2
   t1-conforms = law-of-the-code code keeps t1 2 room t1-words (omega arith) room-words t1-accepted
@@ -282,7 +282,7 @@ unfolding openOf lowest sum times over chainOver hasLabel loops onlyLoops breaks
 opening-single code n f keeps =
     let t11-words : Words t11 = record { sized = omega arith; small = bits 16 t11 refl } in
     let t11-refused : code .verdict t11 2 room .number ≡ FIELD =
-    ap (λ v. v .number) (keeps .verdict t11 2 room t11-words (omega arith) room-words) in
+    ap (λ v. v .number) (keeps .opening t11 2 room t11-words (omega arith) room-words .0) in
     let same : _≡_ {A = ℕ} ACCEPTED FIELD =
     sym (t1-accepted code keeps) ∙ f t1 2 room t1-words (omega arith) room-words
     ∙ sym (f t11 2 room t11-words (omega arith) room-words) ∙ t11-refused in
@@ -293,7 +293,7 @@ pub opening-writes-nothing : (code : Code) → AlwaysOpens code (λ v r r′. r�
 unfolding roomOf openOf lowest sum times over chainOver hasLabel loops onlyLoops breaks merge ℕ-discrete
 opening-writes-nothing code f keeps =
     let written : roomOf base t1 2 room ≡ room =
-    sym (keeps .filled t1 2 room t1-words (omega arith) room-words) ∙ f t1 2 room t1-words (omega arith) room-words in
+    sym (keeps .opening t1 2 room t1-words (omega arith) room-words .1) ∙ f t1 2 room t1-words (omega arith) room-words in
     let first-word : _≡_ {A = ℕ} 5 0 = ap (λ ws. getD ws 0 0) written in
     omega arith
 

@@ -7,10 +7,9 @@ use lib.ListN.{length, take}
 use Rattle.table.specs.Limits.{base}
 use Rattle.table.specs.Numbers.{ACCEPTED}
 use Rattle.table.specs.declared.Verdict.{Verdict}
-use Rattle.opening.specs.Opening.{openOf, roomOf}
+use Rattle.opening.specs.Opening.{Opens}
 use Rattle.state.specs.Numbers.{STRAY}
-use Rattle.session.specs.Calls.{freshOf, sendOf, receiveOf}
-use Rattle.session.specs.Awaited.{awaitedOf}
+use Rattle.session.specs.Promises.{Freshens, Sends, Receives, Awaits}
 use Rattle.session.specs.declared.Answer.{Answer}
 use Rattle.session.specs.declared.Awaiting.{Awaiting}
 use Rattle.session.specs.declared.Session.{Session}
@@ -34,21 +33,20 @@ pub record Code : Type 0 where
   -- state, tables, roles
   pub awaited : Session → List ℕ → ℕ → Awaiting
 
--- the promises of `open` (crates/opening/src/lib.rt) and of the calls of `Session` (crates/session/src/lib.rt)
+-- the promises of `open` (crates/opening/src/lib.rt) and of the calls of `Session` (crates/session/src/lib.rt): the very predicates that their
+-- `ensures` cite, for the values that their types hold
 pub record Promises (code : Code) : Type 0 where
-  pub verdict : (table : List ℕ) (roles : ℕ) (room : List ℕ) → Words table → Size roles → Words room
-      → code .verdict table roles room ≡ openOf base table roles (length room)
-  pub filled : (table : List ℕ) (roles : ℕ) (room : List ℕ) → Words table → Size roles → Words room
-      → code .filled table roles room ≡ roomOf base table roles room
-  pub fresh : (tables : List ℕ) (roles : ℕ) → Words tables → Size roles → code .fresh tables roles ≡ freshOf base tables roles
+  pub opening : (table : List ℕ) (roles : ℕ) (room : List ℕ) → Words table → Size roles → Words room
+      → Opens base table roles room (code .verdict table roles room) (code .filled table roles room)
+  pub fresh : (tables : List ℕ) (roles : ℕ) → Words tables → Size roles → Freshens base tables roles (code .fresh tables roles)
   pub send : (state : Session) (tables : List ℕ) (roles sender receiver label payload : ℕ)
       → FitsSession state → Words tables → Size roles → Fits (sends sender receiver label payload)
-      → code .send state tables roles sender receiver label payload ≡ sendOf base tables roles sender receiver label payload state
+      → Sends base tables roles sender receiver label payload state (code .send state tables roles sender receiver label payload)
   pub receive : (state : Session) (tables : List ℕ) (roles sender receiver : ℕ)
       → FitsSession state → Words tables → Size roles → Fits (receives sender receiver)
-      → code .receive state tables roles sender receiver ≡ receiveOf base tables roles sender receiver state
+      → Receives base tables roles sender receiver state (code .receive state tables roles sender receiver)
   pub awaited : (state : Session) (tables : List ℕ) (roles : ℕ) → FitsSession state → Words tables → Size roles
-      → code .awaited state tables roles ≡ awaitedOf base tables roles state
+      → Awaits base tables roles state (code .awaited state tables roles)
 
 abbrev pub codeAnswer : Code → List ℕ → ℕ → Call → Session → Answer
 codeAnswer code ts roles (sends p q l v) s = code .send s ts roles p q l v
