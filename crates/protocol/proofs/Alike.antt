@@ -1,14 +1,15 @@
 -- Two engines that give the same answers wherever they come. Assumes nothing.
 use Prim.Native.Nat.{ℕ}
-use mathlib.Core.List.{List, [], _∷_}
+use mathlib.Core.List.{List, [], _∷_, _++_}
 use mathlib.Core.Path.{_≡_, refl, sym, _∙_, ap, subst}
 use lib.ListN.{length}
 use Rattle.table.specs.Limits.{Limits}
-use Rattle.table.specs.Tree.{Global, treeOf}
+use Rattle.table.specs.Tree.{Global, Arms, treeOf}
 use Rattle.protocol.specs.Each.{Each, each-nil, each-cons}
 use Rattle.protocol.specs.Engine.{Call, sends, receives, Engine}
 use Rattle.protocol.specs.Left.{unread}
 use Rattle.protocol.specs.Demand3.{after, ComesTo, no-call, accepted-call, refused-call, Finished, Follows, Conforms}
+use Rattle.protocol.specs.Stranded.{Place, AllAccepted, all-made, then, IsReceived, Acts, Advanced, ByAnyArm}
 use Rattle.protocol.proofs.Sessions.Runs.{comes-once}
 
 -- to the calls that may be made, in the good states, which such calls keep
@@ -43,6 +44,72 @@ module _ {S : Type 0} (may : Call → Type 0) (good : S → Type 0) (e f : Engin
       let i = same c s m g in accepted-call (rw i at n) (rw i at t) (fore ms (keeps c s m g) (rw i at r))
   fore {s = s} (each-cons {x = c} m ms) g (refused-call n r) =
       let i = same c s m g in refused-call (rw i at n) (fore ms (keeps c s m g) (rw i at r))
+
+  -- ---- continuations of the one are those of the other
+
+  all-accepted-too : {cs : List Call} {s : S} → Each may cs → good s → AllAccepted e s cs → AllAccepted f s cs
+  all-accepted-too each-nil g all-made = all-made
+  all-accepted-too {s = s} (each-cons {x = c} m ms) g (then n r) =
+      let i = sym (same c s m g) in then (rw i at n) (rw i at (all-accepted-too ms (keeps c s m g) r))
+
+  -- the answer to a call behind them
+  same-behind : (cs : List Call) (s : S) (c : Call) → Each may cs → good s → may c → f .answer c (after f cs s) ≡ e .answer c (after e cs s)
+  same-behind cs s c ms g m = ap (f .answer c) (same-after cs s ms g) ∙ same c (after e cs s) m (good-after cs s ms g)
+
+  received-too : {s : S} {p q k : ℕ} {m : ℕ × ℕ} (P : List Call → Type 0) → good s → (c : IsReceived may e s p q k m) × P (c .before)
+      → (c : IsReceived may f s p q k m) × P (c .before)
+  received-too {s} {p} {q} P g (c, h) =
+      let last = same-behind (c .before) s (receives p q) (c .may-be-made) g (c .may-be-last) in (
+        record {
+          before = c .before;
+          may-be-made = c .may-be-made;
+          all-accepted = all-accepted-too (c .may-be-made) g (c .all-accepted);
+          receives-before = c .receives-before;
+          may-be-last = c .may-be-last;
+          last-accepted = ap (λ a. a .number) last ∙ c .last-accepted;
+          label = ap (λ a. a .label) last ∙ c .label;
+          payload = ap (λ a. a .payload) last ∙ c .payload;
+        },
+        h,
+      )
+
+  acts-too : {s : S} {r : ℕ} (P : List Call → Type 0) → good s → (c : Acts may e s r) × P (c .before ++ (c .call .0 ∷ []))
+      → (c : Acts may f s r) × P (c .before ++ (c .call .0 ∷ []))
+  acts-too {s} P g (c, h) =
+      let (d, m, by, ok) = c .call in (
+        record {
+          before = c .before;
+          may-be-made = c .may-be-made;
+          all-accepted = all-accepted-too (c .may-be-made) g (c .all-accepted);
+          call = (d, m, by, ap (λ a. a .number) (same-behind (c .before) s d (c .may-be-made) g m) ∙ ok);
+        },
+        h,
+      )
+
+  -- from the fresh state on
+  module _ (first : f .fresh ≡ e .fresh) (g : good (e .fresh .state)) where
+    start : f .fresh .state ≡ e .fresh .state
+    start = ap (λ a. a .state) first
+
+    came : (cs : List Call) → Each may cs → after f cs (f .fresh .state) ≡ after e cs (e .fresh .state)
+    came cs ms = ap (λ s. after f cs s) start ∙ same-after cs (e .fresh .state) ms g
+
+    left-unread : (cs : List Call) (p q : ℕ) → Each may cs → unread f p q cs (f .fresh .state) [] ≡ unread e p q cs (e .fresh .state) []
+    left-unread cs p q ms = ap (λ s. unread f p q cs s []) start ∙ same-unread cs p q (e .fresh .state) [] ms g
+
+    pub any-arm-too : {t : List ℕ} {roles : ℕ} {pick : Arms ℕ → ℕ} → f .ended ≡ e .ended → ByAnyArm may e t roles pick → ByAnyArm may f t roles pick
+    any-arm-too {t} {roles} {pick} same-ended b = record {
+      received = λ cs G ms r p q k m i.
+          let r′ = fore ms g (subst (λ s. ComesTo f s (treeOf t) cs G) start r) in
+          let x = b .received cs G ms r′ p q k m (subst (λ w. Place w k m) (left-unread cs p q ms) i) in
+          subst (λ s. (c : IsReceived may f s p q k m) × Advanced pick 0 G (c .before ++ (receives p q ∷ []))) (sym (came cs ms))
+          (received-too (λ ds. Advanced pick 0 G (ds ++ (receives p q ∷ []))) (good-after cs (e .fresh .state) ms g) x);
+      acts = λ cs G ms r r′ h n.
+          let x = b .acts cs G ms (fore ms g (subst (λ s. ComesTo f s (treeOf t) cs G) start r)) r′ h
+          (λ y. n (subst (λ s. f .ended s r′) (sym (came cs ms)) (rw same-ended y))) in
+          subst (λ s. (c : Acts may f s r′) × Advanced pick 0 G (c .before ++ (c .call .0 ∷ []))) (sym (came cs ms))
+          (acts-too (λ ds. Advanced pick 0 G ds) (good-after cs (e .fresh .state) ms g) x);
+    }
 
   module _ (awaits : (s : S) → good s → f .awaited s ≡ e .awaited s) (same-held : f .held ≡ e .held) (same-ended : f .ended ≡ e .ended) where
     finished-e : {roles : ℕ} {s : S} → Finished f roles s → Finished e roles s
@@ -79,19 +146,13 @@ module _ {S : Type 0} (may : Call → Type 0) (good : S → Type 0) (e f : Engin
         → Conforms lim may e t roles → Conforms lim may f t roles
     conforms-too {lim} {t} {roles} first g d = record {
       fresh-accepted = ap (λ a. a .number) first ∙ d .fresh-accepted;
-      comes = λ cs ms. let (G, r) = d .comes cs ms in (G, subst (λ s. ComesTo f s (treeOf t) cs G) (sym start) (forth ms g r));
+      comes = λ cs ms. let (G, r) = d .comes cs ms in (G, subst (λ s. ComesTo f s (treeOf t) cs G) (sym (start first g)) (forth ms g r));
       comes-once = λ cs G H a b. comes-once a b;
       follows = λ cs G ms a.
-          let r = d .follows cs G ms (fore ms g (subst (λ s. ComesTo f s (treeOf t) cs G) start a)) in
-          subst (λ s. Follows lim may f roles s G) (sym (came cs ms)) (follows-too (good-after cs (e .fresh .state) ms g) r);
+          let r = d .follows cs G ms (fore ms g (subst (λ s. ComesTo f s (treeOf t) cs G) (start first g) a)) in
+          subst (λ s. Follows lim may f roles s G) (sym (came first g cs ms)) (follows-too (good-after cs (e .fresh .state) ms g) r);
       held-exactly = λ cs p q ms h i.
-          ap (λ s. f .held s p q) (came cs ms)
+          ap (λ s. f .held s p q) (came first g cs ms)
           ∙ (rw same-held (d .held-exactly cs p q ms h i)
-          ∙ ap length (sym (same-unread cs p q (e .fresh .state) [] ms g) ∙ ap (λ s. unread f p q cs s []) (sym start)));
+          ∙ ap length (sym (left-unread first g cs p q ms)));
     }
-      where
-        start : f .fresh .state ≡ e .fresh .state
-        start = ap (λ a. a .state) first
-
-        came : (cs : List Call) → Each may cs → after f cs (f .fresh .state) ≡ after e cs (e .fresh .state)
-        came cs ms = ap (λ s. after f cs s) start ∙ same-after cs (e .fresh .state) ms g

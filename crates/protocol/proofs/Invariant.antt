@@ -9,3 +9,4 @@ pub mod Queues
 pub mod Theorems
 pub mod Ended
 pub mod Unread
+pub mod Reached

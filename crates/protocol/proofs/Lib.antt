@@ -7,6 +7,7 @@ pub mod Start
 pub mod Blocks
 pub mod Sessions
 pub mod Demand3
+pub mod Stranded
 pub mod Alike
 pub mod Promised
 pub mod Refused

@@ -15,7 +15,7 @@ use Rattle.table.specs.Check.{says, tested}
 use Rattle.table.specs.Limits.{Limits, base}
 use Rattle.table.specs.Numbers.{ACCEPTED}
 use Rattle.table.specs.Rules.{Rule, rules, number, breaks, wordsBroken, rolesBroken}
-use Rattle.table.specs.Tree.{Global, treeOf}
+use Rattle.table.specs.Tree.{Global, Arms, treeOf}
 use Rattle.table.specs.declared.Verdict.{Verdict}
 use Rattle.parts.specs.Projection.{partOf, present}
 use Rattle.opening.specs.Opening.{openOf, blocks, roomOf}
@@ -27,11 +27,13 @@ use Rattle.protocol.specs.Each.{Each}
 use Rattle.protocol.specs.Engine.{Call, sends, receives, Engine, answerTo, reply, roleSet, ours}
 use Rattle.protocol.specs.Fits.{Size, Words, Fits, fits-send, fits-receive, FitsSession}
 use Rattle.protocol.specs.Demand3.{after, Conforms}
-use Rattle.protocol.specs.Promised.{Code, Promises, codeAnswer, engineOf, Demand3OfCode, SessionsFit, NeverStray}
-use Rattle.protocol.proofs.Alike.{good-after, same-after, conforms-too}
+use Rattle.protocol.specs.Stranded.{ByAnyArm, Picks}
+use Rattle.protocol.specs.Promised.{Code, Promises, codeAnswer, engineOf, Demand3OfCode, SessionsFit, NeverStray, K13OfCode, K13ByAnyArmOfCode}
+use Rattle.protocol.proofs.Alike.{good-after, same-after, any-arm-too, conforms-too}
 use Rattle.protocol.proofs.Blocks.Opening.{number-some, Opened, opened}
 use Rattle.protocol.proofs.Blocks.Tables.{TreeKept, length-tables}
 use Rattle.protocol.proofs.Demand3.{ground, fresh-is, fresh-inv, conforms, written, tree-kept}
+use Rattle.protocol.proofs.Stranded.{by-any-arm, strands-nothing}
 use Rattle.protocol.proofs.Sessions.Awaited.{Enough}
 use Rattle.protocol.proofs.Sessions.Fitting.{Small, small-after, session-fits, small-nothing, blocks-words, few-block-rows}
 use Rattle.protocol.proofs.Sessions.Runs.{Inv, Outcome, refused, accepted, outcome}
@@ -122,6 +124,11 @@ module _ (code : Code) (keeps : Promises code) (t : List ℕ) (roles : ℕ) (o :
       (λ s g. ap roleSet (keeps .awaited s tables roles (fits s g) words size-fits)) refl refl
       first-same first-good (conforms base t roles o kept enough-fits (omega arith))
 
+  code-by-any-arm : (pick : Arms ℕ → ℕ) → Picks pick → ByAnyArm Fits engine t roles pick
+  code-by-any-arm pick picks =
+      any-arm-too Fits Good (ours base tables roles) engine same stays-good first-same first-good refl
+      (by-any-arm base t roles o kept (omega arith) enough-fits pick picks)
+
   sessions-fit-too : (cs : List Call) → Each Fits cs → FitsSession (after engine cs (engine .fresh .state))
   sessions-fit-too cs ms =
       let came = ap (λ a. after engine cs (a .state)) first-same ∙ same-after Fits Good (ours base tables roles) engine same stays-good cs _ ms first-good in
@@ -155,6 +162,15 @@ pub sessions-fit : (code : Code) → Promises code → SessionsFit code
 sessions-fit code keeps table roles room wt sr wr ok =
     rw (written-there code keeps table roles room wt sr wr ok)
     (sessions-fit-too code keeps table roles (is-open code keeps table roles room wt sr wr ok) (is-kept code keeps table roles room wt sr wr ok))
+
+pub k13-by-any-arm-of-the-code : (code : Code) → Promises code → K13ByAnyArmOfCode code
+k13-by-any-arm-of-the-code code keeps table roles room wt sr wr ok =
+    rw (written-there code keeps table roles room wt sr wr ok)
+    (code-by-any-arm code keeps table roles (is-open code keeps table roles room wt sr wr ok) (is-kept code keeps table roles room wt sr wr ok))
+
+pub k13-of-the-code : (code : Code) → Promises code → K13OfCode code
+k13-of-the-code code keeps table roles room wt sr wr ok =
+    strands-nothing _ (law-of-the-code code keeps table roles room wt sr wr ok) (k13-by-any-arm-of-the-code code keeps table roles room wt sr wr ok)
 
 pub never-stray : (code : Code) → Promises code → NeverStray code
 never-stray code keeps table roles room wt sr wr ok cs ms p q m =

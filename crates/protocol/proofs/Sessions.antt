@@ -7,3 +7,4 @@ pub mod Runs
 pub mod Awaited
 pub mod Followed
 pub mod Fitting
+pub mod Reached

@@ -23,19 +23,20 @@ use Rattle.parts.specs.Merge.{merge}
 use Rattle.opening.specs.Marked.{t1, t5, t11}
 use Rattle.opening.specs.Opening.{openOf, roomOf}
 use Rattle.blocks.specs.Head.{chain, find}
-use Rattle.state.specs.Numbers.{FULL}
+use Rattle.state.specs.Numbers.{TURN, FULL, EMPTY}
 use Rattle.session.specs.Calls.{freshOf, sendOf}
 use Rattle.session.specs.declared.Answer.{Answer}
 use Rattle.session.specs.declared.Session.{Session}
 use Rattle.protocol.specs.Each.{Each, each-nil, each-cons}
-use Rattle.protocol.specs.Engine.{Call, sends, receives, Reply, Engine, answerTo, ours}
-use Rattle.protocol.specs.Left.{unread}
+use Rattle.protocol.specs.Engine.{Call, sends, receives, caller, Reply, Engine, answerTo, ours}
+use Rattle.protocol.specs.Left.{unread, NothingLeft, left-exchange}
 use Rattle.protocol.specs.Fits.{Size, Words, Fits, FitsSession}
 use Rattle.protocol.specs.Promised.{Code, Promises, codeAnswer, engineOf}
 use Rattle.protocol.specs.Steps.{Action, send, receive, here, Step, rule-1, rule-2, rule-3, rule-4, rule-5, each-arm}
 use Rattle.protocol.specs.Unrolled.{unrolled}
 use Rattle.protocol.specs.Demand3.{Every, every, after, ComesTo, no-call, accepted-call, HasCall, Follows, Conforms}
-use Rattle.protocol.specs.ShutOut.{refusing, single, still, once, counting, overcounting, saying, boasting}
+use Rattle.protocol.specs.Stranded.{Place, oldest, NothingStranded}
+use Rattle.protocol.specs.ShutOut.{refusing, single, still, once, keeping, ignoring, counting, overcounting, saying, boasting}
 use Rattle.protocol.proofs.Alike.{same-after, same-unread, forth}
 use Rattle.protocol.proofs.Demand3.{demand3-base}
 use Rattle.protocol.proofs.Promised.{enough-fits, tables-fit, law-of-the-code, sessions-fit}
@@ -130,6 +131,35 @@ still-fails e c = moves-nobody every every (still e) c (λ d _. refl)
 
 pub once-fails : {S : Type 0} (e : Engine S) → ¬ Conforms base Every (once e) t1 2
 once-fails e c = first-only every every (once e) c ACCEPTED (λ d d′ _ _. refl)
+
+-- ---- what K13 shuts out
+
+-- an engine that keeps a message for ever: any, once one is unread
+pub keeping-strands : {S : Type 0} {may : Call → Type 0} {roles : ℕ} (e : Engine S) (cs : List Call) → Each may cs → (p q k : ℕ) (m : ℕ × ℕ)
+    → Place (unread (keeping e) p q cs (e .fresh .state) []) k m → ¬ NothingStranded may (keeping e) roles
+keeping-strands e cs ms p q k m i c = let z : _≡_ {A = ℕ} EMPTY ACCEPTED = c cs ms .received p q k m i .last-accepted in omega arith
+
+-- one that lets a role wait for ever: any, while that role has not ended
+pub ignoring-strands : {S : Type 0} {may : Call → Type 0} {roles : ℕ} (e : Engine S) (r : ℕ) (cs : List Call) → Each may cs → r < roles
+    → ¬ e .ended (after (ignoring e r) cs (e .fresh .state)) r → ¬ NothingStranded may (ignoring e r) roles
+ignoring-strands e r cs ms h n c =
+    let (d, m, by, ok) = c cs ms .acts r h n .call in
+    let z : _≡_ {A = ℕ} TURN ACCEPTED = rw (eq-eqb (caller d) r by) at ok in
+    omega arith
+
+-- such as these, made from any engine that conforms to T1: the message of its first send, and role 0 at once
+pub keeping-strands-t1 : {S : Type 0} (e : Engine S) → Conforms base Every e t1 2 → ¬ NothingStranded Every (keeping e) 2
+unfolding unread
+keeping-strands-t1 e c =
+    keeping-strands e (first ∷ []) (each-cons every each-nil) 0 1 0 (5, 0) (rw (eq-eqb _ _ (first-accepted every every e c)) oldest)
+
+pub ignoring-strands-t1 : {S : Type 0} (e : Engine S) → Conforms base Every e t1 2 → ¬ NothingStranded Every (ignoring e 0) 2
+unfolding after
+ignoring-strands-t1 e c =
+    ignoring-strands e 0 [] each-nil (omega arith) (λ y. sends-first (at-first every every e c .ended-exactly 0 (omega arith) .0 y))
+  where
+    sends-first : NothingLeft 0 tree → ⊥
+    sends-first (left-exchange n m l) = n refl
 
 -- ---- what an engine says besides its answers, for a table of any number of roles: there is one that is right
 

@@ -4,6 +4,7 @@ pub mod Steps
 pub mod Engine
 pub mod Left
 pub mod Demand3
+pub mod Stranded
 pub mod Fits
 pub mod Promised
 pub mod Refused

@@ -6,6 +6,7 @@ use mathlib.Core.Path.{_≡_}
 use lib.ListN.{length, take}
 use Rattle.table.specs.Limits.{base}
 use Rattle.table.specs.Numbers.{ACCEPTED}
+use Rattle.table.specs.Tree.{Arms}
 use Rattle.table.specs.declared.Verdict.{Verdict}
 use Rattle.opening.specs.Opening.{Opens}
 use Rattle.state.specs.Numbers.{STRAY}
@@ -17,6 +18,7 @@ use Rattle.protocol.specs.Each.{Each}
 use Rattle.protocol.specs.Engine.{Call, sends, receives, Engine, over}
 use Rattle.protocol.specs.Fits.{Size, Words, Fits, FitsSession}
 use Rattle.protocol.specs.Demand3.{after, Conforms}
+use Rattle.protocol.specs.Stranded.{NothingStranded, ByAnyArm, Picks}
 
 -- the public calls, as functions of the values that they are given. The types of the code bound those values, and its promises speak of
 -- them only (Fits.antt): beyond, a Code answers anything
@@ -68,6 +70,17 @@ SessionsFit code = (table : List ℕ) (roles : ℕ) (room : List ℕ) → Words 
     → code .verdict table roles room .number ≡ ACCEPTED → (cs : List Call) → Each Fits cs
     → let e = engineOf code (take (roles * length table) (code .filled table roles room)) roles in
     FitsSession (after e cs (e .fresh .state))
+
+-- and nothing that they let in is stranded (K13): by calls that fit, and whoever picks the arms
+abbrev pub K13OfCode : Code → Type 0
+K13OfCode code = (table : List ℕ) (roles : ℕ) (room : List ℕ) → Words table → Size roles → Words room
+    → code .verdict table roles room .number ≡ ACCEPTED
+    → NothingStranded Fits (engineOf code (take (roles * length table) (code .filled table roles room)) roles) roles
+
+abbrev pub K13ByAnyArmOfCode : Code → Type 0
+K13ByAnyArmOfCode code = (table : List ℕ) (roles : ℕ) (room : List ℕ) → Words table → Size roles → Words room
+    → code .verdict table roles room .number ≡ ACCEPTED → (pick : Arms ℕ → ℕ) → Picks pick
+    → ByAnyArm Fits (engineOf code (take (roles * length table) (code .filled table roles room)) roles) table roles pick
 
 -- and over tables that an opening wrote, STRAY is met only by a state made by hand: after no such calls is a receive refused with it
 abbrev pub NeverStray : Code → Type 0

@@ -1,9 +1,10 @@
--- Engines that demand 3 must not let through, each made from any engine e. proofs/ShutOut.antt shows that it does not. Assumes nothing.
+-- Engines that demand 3, and K13, must not let through, each made from any engine e. proofs/ShutOut.antt shows that it does not. Assumes nothing.
 use Prim.Native.Nat.{ℕ, _+_, _*_}
-use mathlib.Core.Bool.{Bool, true, false}
+use mathlib.Core.Bool.{Bool, true, false, cond}
+use lib.Dec.{eqb}
 use Rattle.table.specs.Numbers.{ACCEPTED}
-use Rattle.state.specs.Numbers.{TURN}
-use Rattle.protocol.specs.Engine.{Call, Reply, Engine}
+use Rattle.state.specs.Numbers.{TURN, EMPTY}
+use Rattle.protocol.specs.Engine.{Call, sends, receives, caller, Reply, Engine}
 
 -- a number, and no message
 abbrev pub bare : {S : Type 0} → ℕ → S → Reply S
@@ -38,6 +39,18 @@ once e = record {
   held = λ s p q. e .held (s .0) p q;
   ended = λ s r. e .ended (s .0) r;
 }
+
+-- keeps each message for ever: refuses every receive
+abbrev pub keptAnswer : {S : Type 0} → Engine S → Call → S → Reply S
+keptAnswer e (sends p q l v) s = e .answer (sends p q l v) s
+keptAnswer e (receives p q) s = bare EMPTY s
+
+abbrev pub keeping : {S : Type 0} → Engine S → Engine S
+keeping e = answering e (keptAnswer e)
+
+-- lets role r wait for ever: refuses every call of it
+abbrev pub ignoring : {S : Type 0} → Engine S → ℕ → Engine S
+ignoring e r = answering e (λ c s. cond (eqb (caller c) r) (bare TURN s) (e .answer c s))
 
 -- says this many for the count of the awaited roles
 abbrev pub counting : {S : Type 0} → Engine S → (S → ℕ) → Engine S

@@ -154,7 +154,7 @@ module _ (lim : Limits) (ts : List ℕ) (roles : ℕ) (ground : Ground lim ts ro
       let (c′, m, g) = preservation (viewOf ts roles) (head ts roles) (configOf lim roles s) (t .1) (inv .agrees) in
       moves-send (viewOf ts roles) (head ts roles) m
 
-  allowed-receive : (p q l v : ℕ) → Allows G (receive p q l v)
+  pub allowed-receive : (p q l v : ℕ) → Allows G (receive p q l v)
       → (c : ℕ) × (w : List (ℕ × ℕ)) × Does (receive p q l v) (standsAt lim ts roles s q) c × (configOf lim roles s .queue p q ≡ ((l, v) ∷ w))
   allowed-receive p q l v t =
       let (c′, m, g) = preservation (viewOf ts roles) (head ts roles) (configOf lim roles s) (t .1) (inv .agrees) in
