@@ -4,7 +4,7 @@ use Prim.Native.Nat.{ℕ, zero, suc, _+_, _≤_, _<_, _%_}
 use mathlib.Core.Bool.{Bool, true, false, cond}
 use mathlib.Core.List.{List, [], _∷_, _++_}
 use mathlib.Core.Option.{Option, none, some, bind}
-use mathlib.Core.Path.{_≡_, refl, sym, _∙_, ap, subst}
+use mathlib.Core.Path.{_≡_, refl, sym, _∙_}
 use native.Mathlib.Decide.{ℕ-discrete}
 use native.Mathlib.Omega.{arith}
 use lib.Dec.{eqb, ltb}
@@ -12,13 +12,13 @@ use lib.ListN.{length, getD, set, length-append}
 use lib.Seq.{sets}
 use borrow.Author.Tests.{ltb-true, ltb-false, eq-eqb, ne-eqb, lt-ltb, le-ltb}
 use Rattle.parts.specs.Part.{Part, p-end, p-send, p-receive, p-loop, p-back, PartArms, p-nil, p-arm}
-use Rattle.parts.specs.Merge.{onlyIf, same, merge, mergeArms}
+use Rattle.parts.specs.Merge.{onlyIf, sameLabels, merge, mergeArms}
 use Rattle.parts.specs.mirror.Codes.{code, codes, codesArms}
 use Rattle.merge.specs.mirror.Merging.{FAR, Merge, rule, equalRule, armRule, stepOf, stepOut, copyOf, after, mergeBody, mergeOf}
-use Rattle.parts.proofs.Rising.{Above, label, no-label, above-above, Rising, r-receive, r-loop, RisingArms, r-arm, first-alone, second-alone, shared}
+use Rattle.parts.proofs.Rising.{Above, label, no-label, above-above, Rising, r-send, r-receive, r-loop, RisingArms, r-arm, first-alone, second-alone, shared}
 use Rattle.parts.proofs.Sizes.{merge-words}
-use Rattle.parts.proofs.Words.{Stands, stands-arm, stands-same-arms, sets-append, words-some, words-some-arms, words-arm}
-use Rattle.merge.proofs.Copies.{kind-of, is-inside, agreeing, stands-agreeing, agreeing-stands, copy-part, copy-arms}
+use Rattle.parts.proofs.Words.{Stands, stands-arm, sets-append, words-some, words-some-arms, words-arm}
+use Rattle.merge.proofs.Copies.{kind-of, is-inside, stands-agreeing, copy-part}
 
 -- the words ws are written from `at` on, and the places behind the two sides are a and b
 abbrev pub wrote : ℕ → ℕ → List ℕ → ℕ → List ℕ → Merge
@@ -41,28 +41,33 @@ gives-on words words′ f u e a b o at t et (some x) m h =
 
 -- ---- the rules
 
-rule-none : (x y : ℕ) → (x ≡ y → ⊥) → (x % 8 ≡ 2 → ⊥) → (y % 8 ≡ 2 → ⊥) → rule x y ≡ 0
+rule-none : (x y : ℕ) → (x ≡ y → ⊥) → (x % 8 ≡ 2 → ⊥) → (y % 8 ≡ 2 → ⊥) → rule false x y ≡ 0
 unfolding rule armRule
 rule-none x y n p q = rw (ne-eqb x y n, ne-eqb (x % 8) 2 p, ne-eqb (y % 8) 2 q)
 
-rule-same : (x y k r : ℕ) → x ≡ y → x % 8 ≡ k → equalRule k ≡ r → rule x y ≡ r
+rule-same : (exact : Bool) (x y k r : ℕ) → x ≡ y → x % 8 ≡ k → equalRule k ≡ r → rule exact x y ≡ r
 unfolding rule
-rule-same x y k r e h f = rw (eq-eqb x y e, h, f)
+rule-same exact x y k r e h f = rw (eq-eqb x y e, h, f)
 
-rule-first-last : (l : ℕ) → rule (code 2 l) 1 ≡ 4
+-- arms of two sends that differ
+rule-exact : (x y : ℕ) → (x ≡ y → ⊥) → rule true x y ≡ 0
+unfolding rule
+rule-exact x y n = rw (ne-eqb x y n)
+
+rule-first-last : (l : ℕ) → rule false (code 2 l) 1 ≡ 4
 unfolding rule armRule
 rule-first-last l = rw (ne-eqb (code 2 l) 1 (λ e. omega arith), kind-of 2 l (omega arith))
 
-rule-second-last : (l : ℕ) → rule 1 (code 2 l) ≡ 5
+rule-second-last : (l : ℕ) → rule false 1 (code 2 l) ≡ 5
 unfolding rule armRule
 rule-second-last l = rw (ne-eqb 1 (code 2 l) (λ e. omega arith), kind-of 2 l (omega arith))
 
-rule-first : (l k : ℕ) → l < k → rule (code 2 l) (code 2 k) ≡ 4
+rule-first : (l k : ℕ) → l < k → rule false (code 2 l) (code 2 k) ≡ 4
 unfolding rule armRule
 rule-first l k h =
     rw (ne-eqb (code 2 l) (code 2 k) (λ e. omega arith), kind-of 2 l (omega arith), kind-of 2 k (omega arith), lt-ltb (code 2 l) (code 2 k) (omega arith))
 
-rule-second : (l k : ℕ) → k < l → rule (code 2 l) (code 2 k) ≡ 5
+rule-second : (l k : ℕ) → k < l → rule false (code 2 l) (code 2 k) ≡ 5
 unfolding rule armRule
 rule-second l k h =
     rw (ne-eqb (code 2 l) (code 2 k) (λ e. omega arith), kind-of 2 l (omega arith), kind-of 2 k (omega arith), le-ltb (code 2 l) (code 2 k) (omega arith))
@@ -70,12 +75,12 @@ rule-second l k h =
 -- ---- one call
 
 -- a call at the words x and y, whose rule is k
-enter : (n : ℕ) (s : List ℕ) (a b : ℕ) (o : List ℕ) (at x y k : ℕ) → getD s a 0 ≡ x → getD s b 0 ≡ y → rule x y ≡ k
+enter : (exact : Bool) (n : ℕ) (s : List ℕ) (a b : ℕ) (o : List ℕ) (at x y k : ℕ) → getD s a 0 ≡ x → getD s b 0 ≡ y → rule exact x y ≡ k
     → suc n < FAR → a < FAR → b < FAR → at < FAR
-    → mergeOf (suc n) s a b o at
-    ≡ mergeBody (copyOf n s) (mergeOf n s) (record { rule = k; a = suc a; b = suc b; at = suc at; left = n }) a b (set o at (cond (eqb k 5) y x)) at
+    → mergeOf (suc n) exact s a b o at
+    ≡ mergeBody (copyOf n s) (λ e. mergeOf n e s) (record { rule = k; a = suc a; b = suc b; at = suc at; left = n }) exact a b (set o at (cond (eqb k 5) y x)) at
 unfolding mergeOf stepOf stepOut
-enter n s a b o at x y k ex ey ek p q r t =
+enter exact n s a b o at x y k ex ey ek p q r t =
     let i : a + 1 ≡ suc a = omega arith in
     let j : b + 1 ≡ suc b = omega arith in
     let m : at + 1 ≡ suc at = omega arith in
@@ -87,14 +92,19 @@ Merges n P Q =
     (s : List ℕ) (a b : ℕ) (o : List ℕ) (at a′ b′ : ℕ) → Rising P → Rising Q → Stands s a (codes P) → Stands s b (codes Q)
     → length (codes P) + length (codes Q) ≤ n → n < FAR → a + length (codes P) ≤ FAR → b + length (codes Q) ≤ FAR
     → at + length (codes P) + length (codes Q) ≤ FAR → a′ ≡ a + length (codes P) → b′ ≡ b + length (codes Q)
-    → Gives codes a′ b′ o at (merge P Q) (mergeOf n s a b o at)
+    → Gives codes a′ b′ o at (merge P Q) (mergeOf n false s a b o at)
 
-abbrev MergesArms : ℕ → PartArms → PartArms → Type 0
-MergesArms n ps qs =
+-- arms of two receives, or exactly those of two sends
+abbrev armsBy : Bool → PartArms → PartArms → Option PartArms
+armsBy true ps qs = cond (sameLabels ps qs) (mergeArms ps qs) none
+armsBy false ps qs = mergeArms ps qs
+
+abbrev MergesArms : Bool → ℕ → PartArms → PartArms → Type 0
+MergesArms exact n ps qs =
     (s : List ℕ) (a b : ℕ) (o : List ℕ) (at a′ b′ : ℕ) → RisingArms ps → RisingArms qs → Stands s a (codesArms ps) → Stands s b (codesArms qs)
     → length (codesArms ps) + length (codesArms qs) ≤ n → n < FAR → a + length (codesArms ps) ≤ FAR → b + length (codesArms qs) ≤ FAR
     → at + length (codesArms ps) + length (codesArms qs) ≤ FAR → a′ ≡ a + length (codesArms ps) → b′ ≡ b + length (codesArms qs)
-    → Gives codesArms a′ b′ o at (mergeArms ps qs) (mergeOf n s a b o at)
+    → Gives codesArms a′ b′ o at (armsBy exact ps qs) (mergeOf n exact s a b o at)
 
 -- ---- parts
 
@@ -124,12 +134,12 @@ head-kind (p-back k) e = omega arith
 -- two parts whose first words differ have no merge
 unlike : (n : ℕ) (P Q : Part) (s : List ℕ) (a b : ℕ) (o : List ℕ) (at : ℕ) → Stands s a (codes P) → Stands s b (codes Q)
     → suc n < FAR → a + length (codes P) ≤ FAR → b + length (codes Q) ≤ FAR → at + length (codes P) + length (codes Q) ≤ FAR
-    → (head P ≡ head Q → ⊥) → mergeOf (suc n) s a b o at .res .ok ≡ false
+    → (head P ≡ head Q → ⊥) → mergeOf (suc n) false s a b o at .res .ok ≡ false
 unlike n P Q s a b o at g h p q r t d =
     let u = words-some P in
     let v = words-some Q in
     rw
-    (enter n s a b o at (head P) (head Q) 0 (head-stands P s a g) (head-stands Q s b h) (rule-none (head P) (head Q) d (head-kind P) (head-kind Q)) p
+    (enter false n s a b o at (head P) (head Q) 0 (head-stands P s a g) (head-stands Q s b h) (rule-none (head P) (head Q) d (head-kind P) (head-kind Q)) p
     (omega arith) (omega arith) (omega arith))
 
 apart : (n : ℕ) (P Q : Part) → merge P Q ≡ none → (head P ≡ head Q → ⊥) → Merges (suc n) P Q
@@ -142,18 +152,18 @@ ends n s a b o at a′ b′ u v g h l z p q r ea eb =
     let i : suc a ≡ a′ = omega arith in
     let j : suc b ≡ b′ = omega arith in
     let m : at + suc zero ≡ suc at = omega arith in
-    enter n s a b o at 0 0 1 (g .0) (h .0) (rule-same 0 0 0 1 refl refl refl) z (omega arith) (omega arith) (omega arith) ∙ rw (i, j, m)
+    enter false n s a b o at 0 0 1 (g .0) (h .0) (rule-same false 0 0 0 1 refl refl refl) z (omega arith) (omega arith) (omega arith) ∙ rw (i, j, m)
 
 backs : (n k j : ℕ) → Merges (suc n) (p-back k) (p-back j)
 unfolding merge codes equalRule onlyIf
 backs n k j s a b o at a′ b′ u v g h l z p q r ea eb = go (ℕ-discrete k j)
   where
-    go : (d : Dec (k ≡ j)) → Gives codes a′ b′ o at (onlyIf d (some (p-back k))) (mergeOf (suc n) s a b o at)
+    go : (d : Dec (k ≡ j)) → Gives codes a′ b′ o at (onlyIf d (some (p-back k))) (mergeOf (suc n) false s a b o at)
     go (yes e) =
         let i : suc a ≡ a′ = omega arith in
         let f : suc b ≡ b′ = omega arith in
         let m : at + suc zero ≡ suc at = omega arith in
-        enter n s a b o at (code 4 k) (code 4 j) 1 (g .0) (h .0) (rule-same (code 4 k) (code 4 j) 4 1 (rw e) (kind-of 4 k (omega arith)) refl) z (omega arith) (omega arith) (omega arith)
+        enter false n s a b o at (code 4 k) (code 4 j) 1 (g .0) (h .0) (rule-same false (code 4 k) (code 4 j) 4 1 (rw e) (kind-of 4 k (omega arith)) refl) z (omega arith) (omega arith) (omega arith)
         ∙ rw (i, f, m)
     go (no d) = unlike n (p-back k) (p-back j) s a b o at g h z p q r (λ e. d (omega arith))
 
@@ -161,67 +171,50 @@ backs n k j s a b o at a′ b′ u v g h l z p q r ea eb = go (ℕ-discrete k j)
 loops : (n : ℕ) (P Q : Part) → Merges n P Q → Merges (suc n) (p-loop P) (p-loop Q)
 unfolding merge codes equalRule
 loops n P Q ih s a b o at a′ b′ (r-loop u) (r-loop v) g h l z p q r ea eb =
-    rw (enter n s a b o at 3 3 2 (g .0) (h .0) (rule-same 3 3 3 2 refl refl refl) z (omega arith) (omega arith) (omega arith))
-    (gives-on codes codes p-loop (3 ∷ []) (λ M. refl) a′ b′ o at (suc at) (omega arith) (merge P Q) (mergeOf n s (suc a) (suc b) (set o at 3) (suc at))
+    rw (enter false n s a b o at 3 3 2 (g .0) (h .0) (rule-same false 3 3 3 2 refl refl refl) z (omega arith) (omega arith) (omega arith))
+    (gives-on codes codes p-loop (3 ∷ []) (λ M. refl) a′ b′ o at (suc at) (omega arith) (merge P Q) (mergeOf n false s (suc a) (suc b) (set o at 3) (suc at))
     (ih s (suc a) (suc b) (set o at 3) (suc at) a′ b′ u v (g .1) (h .1) (omega arith) (omega arith) (omega arith) (omega arith) (omega arith) (omega arith) (omega arith)))
 
 -- two receives, by their arms
-receives : (n k j : ℕ) (ps qs : PartArms) → MergesArms n ps qs → Merges (suc n) (p-receive k ps) (p-receive j qs)
+receives : (n k j : ℕ) (ps qs : PartArms) → MergesArms false n ps qs → Merges (suc n) (p-receive k ps) (p-receive j qs)
 unfolding merge codes equalRule onlyIf
 receives n k j ps qs ih s a b o at a′ b′ (r-receive u) (r-receive v) g h l z p q r ea eb = go (ℕ-discrete k j)
   where
-    go : (d : Dec (k ≡ j)) → Gives codes a′ b′ o at (onlyIf d (bind (mergeArms ps qs) (λ ms. some (p-receive k ms)))) (mergeOf (suc n) s a b o at)
+    go : (d : Dec (k ≡ j)) → Gives codes a′ b′ o at (onlyIf d (bind (mergeArms ps qs) (λ ms. some (p-receive k ms)))) (mergeOf (suc n) false s a b o at)
     go (yes e) =
-        rw (enter n s a b o at (code 6 k) (code 6 j) 2 (g .0) (h .0) (rule-same (code 6 k) (code 6 j) 6 2 (rw e) (kind-of 6 k (omega arith)) refl) z (omega arith) (omega arith) (omega arith))
-        (gives-on codesArms codes (λ ms. p-receive k ms) (code 6 k ∷ []) (λ ms. refl) a′ b′ o at (suc at) (omega arith) (mergeArms ps qs) (mergeOf n s (suc a) (suc b) (set o at (code 6 k)) (suc at))
+        rw (enter false n s a b o at (code 6 k) (code 6 j) 2 (g .0) (h .0) (rule-same false (code 6 k) (code 6 j) 6 2 (rw e) (kind-of 6 k (omega arith)) refl) z (omega arith) (omega arith) (omega arith))
+        (gives-on codesArms codes (λ ms. p-receive k ms) (code 6 k ∷ []) (λ ms. refl) a′ b′ o at (suc at) (omega arith) (mergeArms ps qs) (mergeOf n false s (suc a) (suc b) (set o at (code 6 k)) (suc at))
         (ih s (suc a) (suc b) (set o at (code 6 k)) (suc at) a′ b′ u v (g .1) (h .1) (omega arith) (omega arith) (omega arith) (omega arith) (omega arith) (omega arith) (omega arith)))
     go (no d) = unlike n (p-receive k ps) (p-receive j qs) s a b o at g h z p q r (λ e. d (omega arith))
 
--- what the copy of the part at a says of the part at b
-abbrev compared : List ℕ → ℕ → ℕ → List ℕ → ℕ → List ℕ → Merge
-compared s a b o at ws = record { res = record { ok = agreeing true s b ws; a = a + length ws; b = b + length ws; at = at + length ws }; out = sets o at ws }
+cond-bind : {A B : Type 0} (c : Bool) (X : Option A) (f : A → Option B) → cond c (bind X f) none ≡ bind (cond c X none) f
+unfolding bind
+cond-bind true X f = refl
+cond-bind false X f = refl
 
--- two sends: a copy that compares
-sends : (n k j : ℕ) (ps qs : PartArms) → Merges (suc n) (p-send k ps) (p-send j qs)
+-- two sends, by their arms, which have the same labels
+sends : (n k j : ℕ) (ps qs : PartArms) → MergesArms true n ps qs → Merges (suc n) (p-send k ps) (p-send j qs)
 unfolding merge codes equalRule onlyIf
-sends n k j ps qs s a b o at a′ b′ u v g h l z p q r ea eb = go (ℕ-discrete k j) (same (p-send k ps) (p-send j qs))
+sends n k j ps qs ih s a b o at a′ b′ (r-send u) (r-send v) g h l z p q r ea eb = go (ℕ-discrete k j)
   where
-    m : Merge
-    m = mergeOf (suc n) s a b o at
-
-    is : k ≡ j → m ≡ compared s (suc a) (suc b) (set o at (code 5 k)) (suc at) (codesArms ps)
-    is e =
-        let x = words-some-arms ps in
-        let y = words-some-arms qs in
-        enter n s a b o at (code 5 k) (code 5 j) 3 (g .0) (h .0) (rule-same (code 5 k) (code 5 j) 5 3 (rw e) (kind-of 5 k (omega arith)) refl) z (omega arith) (omega arith) (omega arith)
-        ∙ copy-arms ps n s (suc a) (suc b) (set o at (code 5 k)) (suc at) (g .1) (omega arith) (omega arith) (omega arith) (omega arith) (omega arith)
-
-    other : k ≡ j → (p-send k ps ≡ p-send j qs → ⊥) → (c : Bool) → agreeing true s (suc b) (codesArms ps) ≡ c → m .res .ok ≡ false
-    other e d true f =
-        let i : ps ≡ qs = stands-same-arms ps qs s (suc b) (agreeing-stands true s (suc b) (codesArms ps) f .1) (h .1) in
-        absurd (d cc)
-    other e d false f = rw (is e) f
-
-    go : Dec (k ≡ j) → (d : Dec (p-send k ps ≡ p-send j qs)) → Gives codes a′ b′ o at (onlyIf d (some (p-send k ps))) m
-    go (yes e) (yes f) =
-        let t : Stands s b (codes (p-send k ps)) = subst (λ (P : Part). Stands s b (codes P)) (sym f) h in
-        let w : suc (length (codesArms ps)) ≡ suc (length (codesArms qs)) = ap (λ (P : Part). length (codes P)) f in
-        let i : suc a + length (codesArms ps) ≡ a′ = omega arith in
-        let x : suc b + length (codesArms ps) ≡ b′ = omega arith in
-        let y : suc at + length (codesArms ps) ≡ at + suc (length (codesArms ps)) = omega arith in
-        is e ∙ rw (stands-agreeing true s (suc b) (codesArms ps) (t .1), i, x, y)
-    go (yes e) (no d) = other e d (agreeing true s (suc b) (codesArms ps)) refl
-    go (no d) (yes f) = absurd (d (omega (arith, ap head f)))
-    go (no d) (no c) = unlike n (p-send k ps) (p-send j qs) s a b o at g h z p q r (λ e. d (omega arith))
+    go : (d : Dec (k ≡ j)) → Gives codes a′ b′ o at (onlyIf d (cond (sameLabels ps qs) (bind (mergeArms ps qs) (λ ms. some (p-send k ms))) none)) (mergeOf (suc n) false s a b o at)
+    go (yes e) =
+        rw (
+          cond-bind (sameLabels ps qs) (mergeArms ps qs) (λ ms. some (p-send k ms)),
+          enter false n s a b o at (code 5 k) (code 5 j) 3 (g .0) (h .0) (rule-same false (code 5 k) (code 5 j) 5 3 (rw e) (kind-of 5 k (omega arith)) refl) z (omega arith) (omega arith) (omega arith),
+        )
+        (gives-on codesArms codes (λ ms. p-send k ms) (code 5 k ∷ []) (λ ms. refl) a′ b′ o at (suc at) (omega arith) (armsBy true ps qs) (mergeOf n true s (suc a) (suc b) (set o at (code 5 k)) (suc at))
+        (ih s (suc a) (suc b) (set o at (code 5 k)) (suc at) a′ b′ u v (g .1) (h .1) (omega arith) (omega arith) (omega arith) (omega arith) (omega arith) (omega arith) (omega arith)))
+    go (no d) = unlike n (p-send k ps) (p-send j qs) s a b o at g h z p q r (λ e. d (omega arith))
 
 -- ---- arms
 
 -- the next arm of the first list alone, given the rest; y is the second list's first word
-first-arm : (n l : ℕ) (P : Part) (ps qs : PartArms) → MergesArms n ps qs → Above l qs → (y : ℕ) → rule (code 2 l) y ≡ 4
+first-arm : (n l : ℕ) (P : Part) (ps qs : PartArms) → MergesArms false n ps qs → Above l qs → (y : ℕ) → rule false (code 2 l) y ≡ 4
     → (s : List ℕ) (a b : ℕ) (o : List ℕ) (at a′ b′ : ℕ) → getD s b 0 ≡ y → RisingArms (p-arm l P ps) → RisingArms qs → Stands s a (codesArms (p-arm l P ps)) → Stands s b (codesArms qs)
     → length (codesArms (p-arm l P ps)) + length (codesArms qs) ≤ suc n → suc n < FAR → a + length (codesArms (p-arm l P ps)) ≤ FAR → b + length (codesArms qs) ≤ FAR
     → at + length (codesArms (p-arm l P ps)) + length (codesArms qs) ≤ FAR → a′ ≡ a + length (codesArms (p-arm l P ps)) → b′ ≡ b + length (codesArms qs)
-    → Gives codesArms a′ b′ o at (mergeArms (p-arm l P ps) qs) (mergeOf (suc n) s a b o at)
+    → Gives codesArms a′ b′ o at (mergeArms (p-arm l P ps) qs) (mergeOf (suc n) false s a b o at)
 unfolding codes
 first-arm n l P ps qs ih below y er s a b o at a′ b′ ey (r-arm above u us) v g h len z p q r ea eb =
     let c = suc a + length (codes P) in
@@ -234,19 +227,19 @@ first-arm n l P ps qs ih below y er s a b o at a′ b′ ey (r-arm above u us) v
     let w₃ = words-some-arms qs in
     rw (
       first-alone P above below,
-      enter n s a b o at (code 2 l) y 4 eg ey er z (omega arith) (omega arith) (omega arith),
+      enter false n s a b o at (code 2 l) y 4 eg ey er z (omega arith) (omega arith) (omega arith),
       copy-part P n s (suc a) (suc a) i (suc at) gp (omega arith) (omega arith) (omega arith) (omega arith) (omega arith),
       stands-agreeing true s (suc a) (codes P) gp,
     )
-    (gives-on codesArms codesArms (λ ms. p-arm l P ms) (code 2 l ∷ codes P) (λ ms. refl) a′ b′ o at t (omega arith) (mergeArms ps qs) (mergeOf n s c b (sets i (suc at) (codes P)) t)
+    (gives-on codesArms codesArms (λ ms. p-arm l P ms) (code 2 l ∷ codes P) (λ ms. refl) a′ b′ o at t (omega arith) (mergeArms ps qs) (mergeOf n false s c b (sets i (suc at) (codes P)) t)
     (ih s c b (sets i (suc at) (codes P)) t a′ b′ us v gs h (omega arith) (omega arith) (omega arith) (omega arith) (omega arith) (omega arith) (omega arith)))
 
 -- the next arm of the second list alone, given the rest; x is the first list's first word
-second-arm : (n k : ℕ) (Q : Part) (ps qs : PartArms) → MergesArms n ps qs → Above k ps → (x : ℕ) → rule x (code 2 k) ≡ 5
+second-arm : (n k : ℕ) (Q : Part) (ps qs : PartArms) → MergesArms false n ps qs → Above k ps → (x : ℕ) → rule false x (code 2 k) ≡ 5
     → (s : List ℕ) (a b : ℕ) (o : List ℕ) (at a′ b′ : ℕ) → getD s a 0 ≡ x → RisingArms ps → RisingArms (p-arm k Q qs) → Stands s a (codesArms ps) → Stands s b (codesArms (p-arm k Q qs))
     → length (codesArms ps) + length (codesArms (p-arm k Q qs)) ≤ suc n → suc n < FAR → a + length (codesArms ps) ≤ FAR → b + length (codesArms (p-arm k Q qs)) ≤ FAR
     → at + length (codesArms ps) + length (codesArms (p-arm k Q qs)) ≤ FAR → a′ ≡ a + length (codesArms ps) → b′ ≡ b + length (codesArms (p-arm k Q qs))
-    → Gives codesArms a′ b′ o at (mergeArms ps (p-arm k Q qs)) (mergeOf (suc n) s a b o at)
+    → Gives codesArms a′ b′ o at (mergeArms ps (p-arm k Q qs)) (mergeOf (suc n) false s a b o at)
 unfolding codes
 second-arm n k Q ps qs ih below x er s a b o at a′ b′ ex u (r-arm above v vs) g h len z p q r ea eb =
     let c = suc b + length (codes Q) in
@@ -259,11 +252,11 @@ second-arm n k Q ps qs ih below x er s a b o at a′ b′ ex u (r-arm above v vs
     let w₃ = words-some-arms qs in
     rw (
       second-alone Q qs below,
-      enter n s a b o at x (code 2 k) 5 ex eh er z (omega arith) (omega arith) (omega arith),
+      enter false n s a b o at x (code 2 k) 5 ex eh er z (omega arith) (omega arith) (omega arith),
       copy-part Q n s (suc b) (suc b) i (suc at) hq (omega arith) (omega arith) (omega arith) (omega arith) (omega arith),
       stands-agreeing true s (suc b) (codes Q) hq,
     )
-    (gives-on codesArms codesArms (λ ms. p-arm k Q ms) (code 2 k ∷ codes Q) (λ ms. refl) a′ b′ o at t (omega arith) (mergeArms ps qs) (mergeOf n s a c (sets i (suc at) (codes Q)) t)
+    (gives-on codesArms codesArms (λ ms. p-arm k Q ms) (code 2 k ∷ codes Q) (λ ms. refl) a′ b′ o at t (omega arith) (mergeArms ps qs) (mergeOf n false s a c (sets i (suc at) (codes Q)) t)
     (ih s a c (sets i (suc at) (codes Q)) t a′ b′ u vs g hs (omega arith) (omega arith) (omega arith) (omega arith) (omega arith) (omega arith) (omega arith)))
 
 -- an arm of one label on both sides: X is the merge of its parts, Y that of the arms behind it
@@ -280,10 +273,23 @@ shared-rest l Y next c d a′ b′ o at (some M) one h f =
     rw h
     (gives-on codesArms codesArms (λ ms. p-arm l M ms) (code 2 l ∷ codes M) (λ ms. refl) a′ b′ o at t (omega arith) Y (next c d i t) (f M refl))
 
+-- the label of an arm of both, and those behind it
+shared-by : (exact : Bool) {l : ℕ} (P Q : Part) {ps qs : PartArms} → Above l ps → Above l qs
+    → armsBy exact (p-arm l P ps) (p-arm l Q qs) ≡ bind (merge P Q) (λ M. bind (armsBy exact ps qs) (λ ms. some (p-arm l M ms)))
+unfolding sameLabels bind
+shared-by false P Q above below = shared P Q above below
+shared-by true {l} P Q {ps} {qs} above below = rw (eq-eqb l l refl, shared P Q above below) (go (sameLabels ps qs) (merge P Q))
+  where
+    go : (c : Bool) (X : Option Part)
+        → cond c (bind X (λ M. bind (mergeArms ps qs) (λ ms. some (p-arm l M ms)))) none ≡ bind X (λ M. bind (cond c (mergeArms ps qs) none) (λ ms. some (p-arm l M ms)))
+    go true X = refl
+    go false none = refl
+    go false (some M) = refl
+
 -- an arm of one label on both sides, given its part and the rest
-shared-arm : (n l k : ℕ) (P Q : Part) (ps qs : PartArms) → Merges n P Q → MergesArms n ps qs → l ≡ k → MergesArms (suc n) (p-arm l P ps) (p-arm k Q qs)
+shared-arm : (exact : Bool) (n l k : ℕ) (P Q : Part) (ps qs : PartArms) → Merges n P Q → MergesArms exact n ps qs → l ≡ k → MergesArms exact (suc n) (p-arm l P ps) (p-arm k Q qs)
 unfolding codes equalRule
-shared-arm n l k P Q ps qs ip ia e s a b o at a′ b′ (r-arm above u us) (r-arm below v vs) g h len z p q r ea eb =
+shared-arm exact n l k P Q ps qs ip ia e s a b o at a′ b′ (r-arm above u us) (r-arm below v vs) g h len z p q r ea eb =
     let f : k ≡ l = sym e in
     let c = suc a + length (codes P) in
     let d = suc b + length (codes Q) in
@@ -299,30 +305,34 @@ shared-arm n l k P Q ps qs ip ia e s a b o at a′ b′ (r-arm above u us) (r-ar
     let one = ip s (suc a) (suc b) i (suc at) c d u v gp hq (omega arith) (omega arith) (omega arith) (omega arith) (omega arith) refl refl in
     rw (
       f,
-      shared P Q above (rw f at below),
-      enter n s a b o at (code 2 l) (code 2 k) 6 eg eh (rule-same (code 2 l) (code 2 k) 2 6 (rw e) (kind-of 2 l (omega arith)) refl) z (omega arith) (omega arith) (omega arith),
+      shared-by exact P Q above (rw f at below),
+      enter exact n s a b o at (code 2 l) (code 2 k) 6 eg eh (rule-same exact (code 2 l) (code 2 k) 2 6 (rw e) (kind-of 2 l (omega arith)) refl) z (omega arith) (omega arith) (omega arith),
     )
-    (shared-rest l (mergeArms ps qs) (mergeOf n s) c d a′ b′ o at (merge P Q) (mergeOf n s (suc a) (suc b) i (suc at)) one
+    (shared-rest l (armsBy exact ps qs) (mergeOf n exact s) c d a′ b′ o at (merge P Q) (mergeOf n false s (suc a) (suc b) i (suc at)) one
     (λ M m.
     let small = merge-words P Q m in
     let t = suc at + length (codes M) in
     ia s c d (sets i (suc at) (codes M)) t a′ b′ us vs gs hs (omega arith) (omega arith) (omega arith) (omega arith) (omega arith) (omega arith) (omega arith)))
 
 -- the marks behind two last arms
-nils : (n : ℕ) → MergesArms (suc n) p-nil p-nil
-unfolding merge codes equalRule
-nils n s a b o at a′ b′ u v g h l z p q r ea eb =
+nils : (exact : Bool) (n : ℕ) → MergesArms exact (suc n) p-nil p-nil
+unfolding merge sameLabels codes equalRule
+nils exact n s a b o at a′ b′ u v g h l z p q r ea eb =
     let i : suc a ≡ a′ = omega arith in
     let j : suc b ≡ b′ = omega arith in
     let m : at + suc zero ≡ suc at = omega arith in
-    enter n s a b o at 1 1 1 (g .0) (h .0) (rule-same 1 1 1 1 refl refl refl) z (omega arith) (omega arith) (omega arith) ∙ rw (i, j, m)
+    go exact (enter exact n s a b o at 1 1 1 (g .0) (h .0) (rule-same exact 1 1 1 1 refl refl refl) z (omega arith) (omega arith) (omega arith) ∙ rw (i, j, m))
+  where
+    go : (e : Bool) {m : Merge} → m ≡ wrote a′ b′ o at (1 ∷ []) → Gives codesArms a′ b′ o at (armsBy e p-nil p-nil) m
+    go true f = f
+    go false f = f
 
-arms : (n l k : ℕ) (P Q : Part) (ps qs : PartArms) → Merges n P Q → MergesArms n ps qs → MergesArms n ps (p-arm k Q qs) → MergesArms n (p-arm l P ps) qs
-    → MergesArms (suc n) (p-arm l P ps) (p-arm k Q qs)
+arms : (n l k : ℕ) (P Q : Part) (ps qs : PartArms) → Merges n P Q → MergesArms false n ps qs → MergesArms false n ps (p-arm k Q qs) → MergesArms false n (p-arm l P ps) qs
+    → MergesArms false (suc n) (p-arm l P ps) (p-arm k Q qs)
 unfolding codes
 arms n l k P Q ps qs ip ia first second s a b o at a′ b′ (r-arm above u us) (r-arm below v vs) g h len z p q r ea eb = go (ltb l k) (ltb k l) refl refl
   where
-    go : (x y : Bool) → ltb l k ≡ x → ltb k l ≡ y → Gives codesArms a′ b′ o at (mergeArms (p-arm l P ps) (p-arm k Q qs)) (mergeOf (suc n) s a b o at)
+    go : (x y : Bool) → ltb l k ≡ x → ltb k l ≡ y → Gives codesArms a′ b′ o at (mergeArms (p-arm l P ps) (p-arm k Q qs)) (mergeOf (suc n) false s a b o at)
     go true y e f =
         let m = ltb-true l k e in
         first-arm n l P ps (p-arm k Q qs) first (label m (above-above m below)) (code 2 k) (rule-first l k m) s a b o at a′ b′ (h .0)
@@ -332,10 +342,26 @@ arms n l k P Q ps qs ip ia first second s a b o at a′ b′ (r-arm above u us) 
         second-arm n k Q (p-arm l P ps) qs second (label m (above-above m above)) (code 2 l) (rule-second l k m) s a b o at a′ b′ (g .0)
         (r-arm above u us) (r-arm below v vs) g h len z p q r ea eb
     go false false e f =
-        shared-arm n l k P Q ps qs ip ia (omega (arith, ltb-false l k e, ltb-false k l f)) s a b o at a′ b′ (r-arm above u us) (r-arm below v vs) g h len z p q r ea eb
+        shared-arm false n l k P Q ps qs ip ia (omega (arith, ltb-false l k e, ltb-false k l f)) s a b o at a′ b′ (r-arm above u us) (r-arm below v vs) g h len z p q r ea eb
+
+-- arms of two sends whose next labels differ: x and y are their first words
+no-arms : (n : ℕ) (ps qs : PartArms) → sameLabels ps qs ≡ false → (s : List ℕ) (a b : ℕ) (o : List ℕ) (at a′ b′ x y : ℕ) → getD s a 0 ≡ x → getD s b 0 ≡ y
+    → (x ≡ y → ⊥) → suc n < FAR → a < FAR → b < FAR → at < FAR → Gives codesArms a′ b′ o at (armsBy true ps qs) (mergeOf (suc n) true s a b o at)
+no-arms n ps qs f s a b o at a′ b′ x y ex ey d z p q r =
+    rw (f, enter true n s a b o at x y 0 ex ey (rule-exact x y d) z p q r)
+
+exact-arms : (n l k : ℕ) (P Q : Part) (ps qs : PartArms) → Merges n P Q → MergesArms true n ps qs → MergesArms true (suc n) (p-arm l P ps) (p-arm k Q qs)
+unfolding codes sameLabels
+exact-arms n l k P Q ps qs ip ia s a b o at a′ b′ u v g h len z p q r ea eb = go (ℕ-discrete l k)
+  where
+    go : Dec (l ≡ k) → Gives codesArms a′ b′ o at (armsBy true (p-arm l P ps) (p-arm k Q qs)) (mergeOf (suc n) true s a b o at)
+    go (yes e) = shared-arm true n l k P Q ps qs ip ia e s a b o at a′ b′ u v g h len z p q r ea eb
+    go (no d) =
+        no-arms n (p-arm l P ps) (p-arm k Q qs) (rw (ne-eqb l k d)) s a b o at a′ b′ (code 2 l) (code 2 k) (g .0) (h .0) (λ e. d (omega arith)) z
+        (omega arith) (omega arith) (omega arith)
 
 -- two parts, given all calls with one row fewer
-parts-from : (n : ℕ) → ((P Q : Part) → Merges n P Q) → ((ps qs : PartArms) → MergesArms n ps qs) → (P Q : Part) → Merges (suc n) P Q
+parts-from : (n : ℕ) → ((P Q : Part) → Merges n P Q) → ((exact : Bool) (ps qs : PartArms) → MergesArms exact n ps qs) → (P Q : Part) → Merges (suc n) P Q
 unfolding merge codes
 parts-from n e f p-end p-end = ends n
 parts-from n e f p-end (p-send j qs) = apart n p-end (p-send j qs) refl (λ d. omega arith)
@@ -343,13 +369,13 @@ parts-from n e f p-end (p-receive j qs) = apart n p-end (p-receive j qs) refl (�
 parts-from n e f p-end (p-loop Q) = apart n p-end (p-loop Q) refl (λ d. omega arith)
 parts-from n e f p-end (p-back j) = apart n p-end (p-back j) refl (λ d. omega arith)
 parts-from n e f (p-send k ps) p-end = apart n (p-send k ps) p-end refl (λ d. omega arith)
-parts-from n e f (p-send k ps) (p-send j qs) = sends n k j ps qs
+parts-from n e f (p-send k ps) (p-send j qs) = sends n k j ps qs (f true ps qs)
 parts-from n e f (p-send k ps) (p-receive j qs) = apart n (p-send k ps) (p-receive j qs) refl (λ d. omega arith)
 parts-from n e f (p-send k ps) (p-loop Q) = apart n (p-send k ps) (p-loop Q) refl (λ d. omega arith)
 parts-from n e f (p-send k ps) (p-back j) = apart n (p-send k ps) (p-back j) refl (λ d. omega arith)
 parts-from n e f (p-receive k ps) p-end = apart n (p-receive k ps) p-end refl (λ d. omega arith)
 parts-from n e f (p-receive k ps) (p-send j qs) = apart n (p-receive k ps) (p-send j qs) refl (λ d. omega arith)
-parts-from n e f (p-receive k ps) (p-receive j qs) = receives n k j ps qs (f ps qs)
+parts-from n e f (p-receive k ps) (p-receive j qs) = receives n k j ps qs (f false ps qs)
 parts-from n e f (p-receive k ps) (p-loop Q) = apart n (p-receive k ps) (p-loop Q) refl (λ d. omega arith)
 parts-from n e f (p-receive k ps) (p-back j) = apart n (p-receive k ps) (p-back j) refl (λ d. omega arith)
 parts-from n e f (p-loop P) p-end = apart n (p-loop P) p-end refl (λ d. omega arith)
@@ -364,19 +390,25 @@ parts-from n e f (p-back k) (p-loop Q) = apart n (p-back k) (p-loop Q) refl (λ 
 parts-from n e f (p-back k) (p-back j) = backs n k j
 
 -- two arm lists, given all calls with one row fewer
-arms-from : (n : ℕ) → ((P Q : Part) → Merges n P Q) → ((ps qs : PartArms) → MergesArms n ps qs) → (ps qs : PartArms) → MergesArms (suc n) ps qs
-unfolding codes
-arms-from n e f p-nil p-nil = nils n
-arms-from n e f p-nil (p-arm k Q qs) = λ s a b o at a′ b′ u v g h.
-    second-arm n k Q p-nil qs (f p-nil qs) no-label 1 (rule-second-last k) s a b o at a′ b′ (g .0) u v g h
-arms-from n e f (p-arm k P ps) p-nil = λ s a b o at a′ b′ u v g h.
-    first-arm n k P ps p-nil (f ps p-nil) no-label 1 (rule-first-last k) s a b o at a′ b′ (h .0) u v g h
-arms-from n e f (p-arm k P ps) (p-arm j Q qs) = arms n k j P Q ps qs (e P Q) (f ps qs) (f ps (p-arm j Q qs)) (f (p-arm k P ps) qs)
+arms-from : (n : ℕ) → ((P Q : Part) → Merges n P Q) → ((exact : Bool) (ps qs : PartArms) → MergesArms exact n ps qs) → (exact : Bool) (ps qs : PartArms)
+    → MergesArms exact (suc n) ps qs
+unfolding codes sameLabels
+arms-from n e f exact p-nil p-nil = nils exact n
+arms-from n e f false p-nil (p-arm k Q qs) = λ s a b o at a′ b′ u v g h.
+    second-arm n k Q p-nil qs (f false p-nil qs) no-label 1 (rule-second-last k) s a b o at a′ b′ (g .0) u v g h
+arms-from n e f false (p-arm k P ps) p-nil = λ s a b o at a′ b′ u v g h.
+    first-arm n k P ps p-nil (f false ps p-nil) no-label 1 (rule-first-last k) s a b o at a′ b′ (h .0) u v g h
+arms-from n e f false (p-arm k P ps) (p-arm j Q qs) = arms n k j P Q ps qs (e P Q) (f false ps qs) (f false ps (p-arm j Q qs)) (f false (p-arm k P ps) qs)
+arms-from n e f true p-nil (p-arm k Q qs) = λ s a b o at a′ b′ u v g h len z p q r ea eb.
+    no-arms n p-nil (p-arm k Q qs) refl s a b o at a′ b′ 1 (code 2 k) (g .0) (h .0) (λ d. omega arith) z (omega arith) (omega arith) (omega arith)
+arms-from n e f true (p-arm k P ps) p-nil = λ s a b o at a′ b′ u v g h len z p q r ea eb.
+    no-arms n (p-arm k P ps) p-nil refl s a b o at a′ b′ (code 2 k) 1 (g .0) (h .0) (λ d. omega arith) z (omega arith) (omega arith) (omega arith)
+arms-from n e f true (p-arm k P ps) (p-arm j Q qs) = exact-arms n k j P Q ps qs (e P Q) (f true ps qs)
 
-all-merges : (n : ℕ) → ((P Q : Part) → Merges n P Q) × ((ps qs : PartArms) → MergesArms n ps qs)
+all-merges : (n : ℕ) → ((P Q : Part) → Merges n P Q) × ((exact : Bool) (ps qs : PartArms) → MergesArms exact n ps qs)
 all-merges zero = (
   λ P Q s a b o at a′ b′ u v g h l. absurd (omega (arith, words-some P)),
-  λ ps qs s a b o at a′ b′ u v g h l. absurd (omega (arith, words-some-arms ps)),
+  λ exact ps qs s a b o at a′ b′ u v g h l. absurd (omega (arith, words-some-arms ps)),
 )
 all-merges (suc n) =
     let (e, f) = all-merges n in
@@ -387,11 +419,11 @@ all-merges (suc n) =
 -- the parts at a and b, merged
 pub merge-is : (P Q : Part) (left : ℕ) (s : List ℕ) (a b : ℕ) (o : List ℕ) (at : ℕ) → Rising P → Rising Q → Stands s a (codes P) → Stands s b (codes Q)
     → length (codes P) + length (codes Q) ≤ left → left < FAR → a + length (codes P) ≤ FAR → b + length (codes Q) ≤ FAR → at + length (codes P) + length (codes Q) ≤ FAR
-    → Gives codes (a + length (codes P)) (b + length (codes Q)) o at (merge P Q) (mergeOf left s a b o at)
+    → Gives codes (a + length (codes P)) (b + length (codes Q)) o at (merge P Q) (mergeOf left false s a b o at)
 merge-is P Q left s a b o at u v g h l z p q r = all-merges left .0 P Q s a b o at (a + length (codes P)) (b + length (codes Q)) u v g h l z p q r refl refl
 
 -- the arm lists at a and b, merged
 pub merge-is-arms : (ps qs : PartArms) (left : ℕ) (s : List ℕ) (a b : ℕ) (o : List ℕ) (at : ℕ) → RisingArms ps → RisingArms qs → Stands s a (codesArms ps) → Stands s b (codesArms qs)
     → length (codesArms ps) + length (codesArms qs) ≤ left → left < FAR → a + length (codesArms ps) ≤ FAR → b + length (codesArms qs) ≤ FAR → at + length (codesArms ps) + length (codesArms qs) ≤ FAR
-    → Gives codesArms (a + length (codesArms ps)) (b + length (codesArms qs)) o at (mergeArms ps qs) (mergeOf left s a b o at)
-merge-is-arms ps qs left s a b o at u v g h l z p q r = all-merges left .1 ps qs s a b o at (a + length (codesArms ps)) (b + length (codesArms qs)) u v g h l z p q r refl refl
+    → Gives codesArms (a + length (codesArms ps)) (b + length (codesArms qs)) o at (mergeArms ps qs) (mergeOf left false s a b o at)
+merge-is-arms ps qs left s a b o at u v g h l z p q r = all-merges left .1 false ps qs s a b o at (a + length (codesArms ps)) (b + length (codesArms qs)) u v g h l z p q r refl refl

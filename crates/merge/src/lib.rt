@@ -120,11 +120,11 @@ fn arm_rule(x: u16, y: u16) -> u8
 }
 
 // 0 no merge; 1 a row without children; 2 one child each (Loop, Receive); 3 two Sends; 4 an arm that only the first side has; 5 only
-// the second; 6 an arm of both.
-fn rule_of(x: u16, y: u16) -> u8
-    ensures { λ r. ⌜ r ≡ rule x y ⌝ }
+// the second; 6 an arm of both. `exact`: the rows are arms of two Sends, where each side has every label.
+fn rule_of(exact: bool, x: u16, y: u16) -> u8
+    ensures { λ r. ⌜ r ≡ rule exact x y ⌝ }
 {
-    pick(x == y, equal_rule(x % 8), arm_rule(x, y))
+    pick(x == y, equal_rule(x % 8), pick(exact, 0, arm_rule(x, y)))
 }
 
 fn pick_word(b: bool, x: u16, y: u16) -> u16
@@ -134,9 +134,17 @@ fn pick_word(b: bool, x: u16, y: u16) -> u16
 }
 
 // The rule of the rows at `a` and `b`. The merge's own row is written: it is the second side's where only that side has the arm.
-fn first_rows(src: &[u16], a: usize, b: usize, out: &mut [u16], at: usize, left: usize) -> Step
-    ensures { λ r. ⌜ (r ≡ stepOf left (now (src .entry)) a b at)
-        × (now (out .exit) ≡ stepOut left (now (src .entry)) a b (now (out .entry)) at) × (0 < r .rule → r .left < left) ⌝ }
+fn first_rows(
+    src: &[u16],
+    exact: bool,
+    a: usize,
+    b: usize,
+    out: &mut [u16],
+    at: usize,
+    left: usize,
+) -> Step
+    ensures { λ r. ⌜ (r ≡ stepOf left exact (now (src .entry)) a b at)
+        × (now (out .exit) ≡ stepOut left exact (now (src .entry)) a b (now (out .entry)) at) × (0 < r .rule → r .left < left) ⌝ }
 {
     if !inside(left, a, b, at) {
         return Step {
@@ -149,7 +157,7 @@ fn first_rows(src: &[u16], a: usize, b: usize, out: &mut [u16], at: usize, left:
     }
     let x = words::peek(src, a);
     let y = words::peek(src, b);
-    let rule = rule_of(x, y);
+    let rule = rule_of(exact, x, y);
     words::poke(out, at, pick_word(rule == 5, y, x));
     Step {
         rule: rule,
@@ -174,11 +182,19 @@ fn both_ok(ok: bool, m: Merged) -> Merged
 
 // Merges the part or arm list at `a` with the one at `b`, one level of branches a call, by the rule of the first rows (`rule_of`). Arms
 // stand in rising label order on both sides, and so they do in the merge. `left` falls, so the calls end.
-pub fn merge(src: &[u16], a: usize, b: usize, out: &mut [u16], at: usize, left: usize) -> Merged
-    ensures { λ r. ⌜ (r ≡ mergeOf left (now (src .entry)) a b (now (out .entry)) at .res)
-        × (now (out .exit) ≡ mergeOf left (now (src .entry)) a b (now (out .entry)) at .out) ⌝ }
+pub fn merge(
+    src: &[u16],
+    exact: bool,
+    a: usize,
+    b: usize,
+    out: &mut [u16],
+    at: usize,
+    left: usize,
+) -> Merged
+    ensures { λ r. ⌜ (r ≡ mergeOf left exact (now (src .entry)) a b (now (out .entry)) at .res)
+        × (now (out .exit) ≡ mergeOf left exact (now (src .entry)) a b (now (out .entry)) at .out) ⌝ }
 {
-    let s = first_rows(src, a, b, out, at, left);
+    let s = first_rows(src, exact, a, b, out, at, left);
     let rule = s.rule;
     match rule {
         0 => Merged {
@@ -193,19 +209,19 @@ pub fn merge(src: &[u16], a: usize, b: usize, out: &mut [u16], at: usize, left: 
             b: s.b,
             at: s.at,
         },
-        2 => merge(src, s.a, s.b, out, s.at, s.left),
-        3 => copy(src, s.a, s.b, out, s.at, s.left),
+        2 => merge(src, false, s.a, s.b, out, s.at, s.left),
+        3 => merge(src, true, s.a, s.b, out, s.at, s.left),
         4 => {
             let one = copy(src, s.a, s.a, out, s.at, s.left);
-            both_ok(one.ok, merge(src, one.a, b, out, one.at, s.left))
+            both_ok(one.ok, merge(src, exact, one.a, b, out, one.at, s.left))
         }
         5 => {
             let one = copy(src, s.b, s.b, out, s.at, s.left);
-            both_ok(one.ok, merge(src, a, one.b, out, one.at, s.left))
+            both_ok(one.ok, merge(src, exact, a, one.b, out, one.at, s.left))
         }
         _ => {
-            let one = merge(src, s.a, s.b, out, s.at, s.left);
-            both_ok(one.ok, merge(src, one.a, one.b, out, one.at, s.left))
+            let one = merge(src, false, s.a, s.b, out, s.at, s.left);
+            both_ok(one.ok, merge(src, exact, one.a, one.b, out, one.at, s.left))
         }
     }
 }
@@ -280,7 +296,7 @@ pub fn join(work: &mut [u16], spare: &mut [u16], a: usize, b: usize, left: usize
         × (now (spare .exit) ≡ joinOf left (now (work .entry)) (now (spare .entry)) a b .spare) ⌝ }
 {
     let from = skip(work, a, b);
-    let m = merge(work, from.a, from.b, spare, 0, left);
+    let m = merge(work, false, from.a, from.b, spare, 0, left);
     let end = put(spare, m.at, work, from.a);
     Joined { ok: m.ok, at: end }
 }

@@ -6,3 +6,4 @@ pub mod Rising
 pub mod Seven
 pub mod Sizes
 pub mod Words
+pub mod Before
