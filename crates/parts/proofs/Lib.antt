@@ -7,3 +7,4 @@ pub mod Seven
 pub mod Sizes
 pub mod Words
 pub mod Before
+pub mod Labels
