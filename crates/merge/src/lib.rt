@@ -1,20 +1,34 @@
-// The merge of two parts. A part is one word a row in the order met, kind + 8 x argument (specs/mirror/Codes.antt): 0 End, 1 the mark
-// behind an action's last arm, 2 Arm, 3 Loop, 4 Back, 5 Send, 6 Receive. Every place is tested before use, so no sum wraps, whatever
-// the words are. What these functions do with the words of parts is proved in proofs/Meaning.antt and Joins.antt.
+// The merge of two parts. A part is one word a row in the order met, a kind and an argument (specs/mirror/Codes.antt of parts), with a mark
+// behind an action's last arm. Every place is tested before use, so no sum wraps, whatever the words are, and no merge has more words than
+// MOST. What these functions do with the words of parts is proved in proofs/Meaning.antt and Joins.antt.
+use parts::ARM;
+use parts::KINDS;
+use parts::LOOP;
+use parts::MARK;
+use parts::RECEIVE;
+use parts::SEND;
+use table::Table;
 ghost use mathlib.Core.Path.{_≡_};
 ghost use mathlib.Core.Bool.{cond};
 ghost use Prim.Native.Nat.{_<_, _≤_};
 ghost use Rattle.merge.specs.mirror.Merging.{inside, kids, copyOf, equalRule, armRule, rule, stepOf, stepOut, bothOk, mergeOf, putOn, behindOf, comesFirst, behindArms, skipOf, joinOf};
 
-// Places and numbers of rows stay below this; a part has at most 512 words.
-const FAR: usize = 65536;
+// Two parts of one table have at most two words for each of its rows, and so has their merge.
+const MOST: usize = Table::ROWS * 2;
 
-// How far a copy or a merge came: the places behind what it read on either side, and behind what it wrote. `ok`: it is whole.
-pub struct Merged {
-    pub ok: bool,
-    pub a: usize,
-    pub b: usize,
-    pub at: usize,
+// How far a copy came: the places behind what it read, and behind what it wrote. `ok`: it is whole.
+struct Copied {
+    ok: bool,
+    end: usize,
+    at: usize,
+}
+
+// How far a merge came: the places behind what it read on either side, and behind what it wrote. `ok`: it is whole.
+struct Merged {
+    ok: bool,
+    a: usize,
+    b: usize,
+    at: usize,
 }
 
 // Whether there is a merge, and the place behind it.
@@ -38,11 +52,11 @@ struct Places {
     b: usize,
 }
 
-// A row remains, and no place or number is so large that a sum could wrap.
-fn inside(left: usize, a: usize, b: usize, at: usize) -> bool
-    ensures { λ r. ⌜ r ≡ inside left a b at ⌝ }
+// A row remains, and the places are inside what is read and what a merge may have.
+fn inside(left: usize, words: usize, a: usize, b: usize, at: usize) -> bool
+    ensures { λ r. ⌜ r ≡ inside left words a b at ⌝ }
 {
-    (0 < left) & (left < FAR) & (a < FAR) & (b < FAR) & (at < FAR)
+    (0 < left) & (a < words) & (b < words) & (at < MOST)
 }
 
 // One of two numbers, without a branch in the caller.
@@ -56,45 +70,33 @@ fn pick(b: bool, x: u8, y: u8) -> u8
 fn kids(w: u16) -> u8
     ensures { λ r. ⌜ (r ≡ kids w) × (r ≤ 2) ⌝ }
 {
-    let k = w % 8;
-    pick(k == 2, 2, pick((k == 3) | (k == 5) | (k == 6), 1, 0))
+    let k = w % KINDS;
+    pick(
+        k == ARM,
+        2,
+        pick((k == LOOP) | (k == SEND) | (k == RECEIVE), 1, 0),
+    )
 }
 
-// Copies the part or arm list at `a`. `ok`: the one at `b` is the same type throughout. With b = a it is a plain copy.
-pub fn copy(src: &[u16], a: usize, b: usize, out: &mut [u16], at: usize, left: usize) -> Merged
-    ensures { λ r. ⌜ (r ≡ copyOf left (now (src .entry)) a b (now (out .entry)) at .res)
-        × (now (out .exit) ≡ copyOf left (now (src .entry)) a b (now (out .entry)) at .out) ⌝ }
+// Copies the part or arm list at `a`.
+fn copy(src: &[u16], a: usize, out: &mut [u16], at: usize) -> Copied
+    ensures { λ r. ⌜ (r ≡ copyOf (now (src .entry)) a (now (out .entry)) at .res)
+        × (now (out .exit) ≡ copyOf (now (src .entry)) a (now (out .entry)) at .out) ⌝ }
 {
-    if !inside(left, a, b, at) {
-        return Merged {
-            ok: false,
-            a: a,
-            b: b,
-            at: at,
-        };
-    }
     let mut x = a;
-    let mut y = b;
     let mut t = at;
-    let mut alike = true;
     // parts and arm lists that are still to come
     let mut owed: usize = 1;
-    let mut more = left;
-    while (0 < owed) & (0 < more) {
+    while (0 < owed) & (x < src.len()) & (t < MOST) {
         let w = words::peek(src, x);
-        let v = words::peek(src, y);
-        alike = alike & (w == v);
         words::poke(out, t, w);
         owed = owed - 1 + kids(w) as usize;
         x += 1;
-        y += 1;
         t += 1;
-        more -= 1;
     }
-    Merged {
-        ok: alike & (owed == 0),
-        a: x,
-        b: y,
+    Copied {
+        ok: owed == 0,
+        end: x,
         at: t,
     }
 }
@@ -103,19 +105,23 @@ pub fn copy(src: &[u16], a: usize, b: usize, out: &mut [u16], at: usize, left: u
 fn equal_rule(k: u16) -> u8
     ensures { λ r. ⌜ r ≡ equalRule k ⌝ }
 {
-    pick(k == 2, 6, pick(k == 5, 3, pick((k == 3) | (k == 6), 2, 1)))
+    pick(
+        k == ARM,
+        6,
+        pick(k == SEND, 3, pick((k == LOOP) | (k == RECEIVE), 2, 1)),
+    )
 }
 
 // Two rows of different words merge only in arm lists, where the lower label goes first and the mark behind the last arm goes last.
 fn arm_rule(x: u16, y: u16) -> u8
     ensures { λ r. ⌜ r ≡ armRule x y ⌝ }
 {
-    let k = x % 8;
-    let j = y % 8;
+    let k = x % KINDS;
+    let j = y % KINDS;
     pick(
-        (k == 2) & ((j == 1) | (j == 2) & (x < y)),
+        (k == ARM) & ((j == MARK) | (j == ARM) & (x < y)),
         4,
-        pick((j == 2) & ((k == 1) | (k == 2)), 5, 0),
+        pick((j == ARM) & ((k == MARK) | (k == ARM)), 5, 0),
     )
 }
 
@@ -124,7 +130,11 @@ fn arm_rule(x: u16, y: u16) -> u8
 fn rule_of(exact: bool, x: u16, y: u16) -> u8
     ensures { λ r. ⌜ r ≡ rule exact x y ⌝ }
 {
-    pick(x == y, equal_rule(x % 8), pick(exact, 0, arm_rule(x, y)))
+    pick(
+        x == y,
+        equal_rule(x % KINDS),
+        pick(exact, 0, arm_rule(x, y)),
+    )
 }
 
 fn pick_word(b: bool, x: u16, y: u16) -> u16
@@ -146,7 +156,7 @@ fn first_rows(
     ensures { λ r. ⌜ (r ≡ stepOf left exact (now (src .entry)) a b at)
         × (now (out .exit) ≡ stepOut left exact (now (src .entry)) a b (now (out .entry)) at) × (0 < r .rule → r .left < left) ⌝ }
 {
-    if !inside(left, a, b, at) {
+    if !inside(left, src.len(), a, b, at) {
         return Step {
             rule: 0,
             a: a,
@@ -181,8 +191,9 @@ fn both_ok(ok: bool, m: Merged) -> Merged
 }
 
 // Merges the part or arm list at `a` with the one at `b`, one level of branches a call, by the rule of the first rows (`rule_of`). Arms
-// stand in rising label order on both sides, and so they do in the merge. `left` falls, so the calls end.
-pub fn merge(
+// stand in rising label order on both sides, and so they do in the merge. `left`, the rows that remain, falls, so the calls end; the place in
+// `out` rises up to MOST, so they go no deeper than that, whatever `left` is.
+fn merge(
     src: &[u16],
     exact: bool,
     a: usize,
@@ -212,12 +223,12 @@ pub fn merge(
         2 => merge(src, false, s.a, s.b, out, s.at, s.left),
         3 => merge(src, true, s.a, s.b, out, s.at, s.left),
         4 => {
-            let one = copy(src, s.a, s.a, out, s.at, s.left);
-            both_ok(one.ok, merge(src, exact, one.a, b, out, one.at, s.left))
+            let one = copy(src, s.a, out, s.at);
+            both_ok(one.ok, merge(src, exact, one.end, b, out, one.at, s.left))
         }
         5 => {
-            let one = copy(src, s.b, s.b, out, s.at, s.left);
-            both_ok(one.ok, merge(src, exact, a, one.b, out, one.at, s.left))
+            let one = copy(src, s.b, out, s.at);
+            both_ok(one.ok, merge(src, exact, a, one.end, out, one.at, s.left))
         }
         _ => {
             let one = merge(src, false, s.a, s.b, out, s.at, s.left);
@@ -260,7 +271,7 @@ fn comes_first(src: &[u16], x: usize, y: u16) -> bool
     ensures { λ r. ⌜ r ≡ comesFirst (now (src .entry)) x y ⌝ }
 {
     let w = words::peek(src, x);
-    (x < src.len()) & (w % 8 == 2) & (w < y)
+    (x < src.len()) & (w % KINDS == ARM) & (w < y)
 }
 
 // The place behind the arms from `a` on that come before the arm whose word is y.
@@ -280,7 +291,7 @@ fn skip(src: &[u16], a: usize, b: usize) -> Places
     ensures { λ r. ⌜ r ≡ skipOf (now (src .entry)) a b ⌝ }
 {
     let w = words::peek(src, a);
-    if (a < src.len()) & (b < src.len()) & (w % 8 == 6) & (w == words::peek(src, b)) {
+    if (a < src.len()) & (b < src.len()) & (w % KINDS == RECEIVE) & (w == words::peek(src, b)) {
         return Places {
             a: behind_arms(src, a + 1, words::peek(src, b + 1)),
             b: b + 1,
@@ -289,13 +300,15 @@ fn skip(src: &[u16], a: usize, b: usize) -> Places
     Places { a: a, b: b }
 }
 
-// The merge of the parts at `a` and `b` of `work` takes the place of the one at `a`. What does not stand there yet is made in `spare`.
-pub fn join(work: &mut [u16], spare: &mut [u16], a: usize, b: usize, left: usize) -> Joined
-    ensures { λ r. ⌜ (r ≡ joinOf left (now (work .entry)) (now (spare .entry)) a b .res)
-        × (now (work .exit) ≡ joinOf left (now (work .entry)) (now (spare .entry)) a b .work)
-        × (now (spare .exit) ≡ joinOf left (now (work .entry)) (now (spare .entry)) a b .spare) ⌝ }
+// The merge of the parts at `a` and `b` of `work` takes the place of the one at `a`. What does not stand there yet is made in `spare`, which has
+// a word for each of theirs: so many rows remain.
+pub fn join(work: &mut [u16], spare: &mut [u16], a: usize, b: usize) -> Joined
+    ensures { λ r. ⌜ (r ≡ joinOf (now (work .entry)) (now (spare .entry)) a b .res)
+        × (now (work .exit) ≡ joinOf (now (work .entry)) (now (spare .entry)) a b .work)
+        × (now (spare .exit) ≡ joinOf (now (work .entry)) (now (spare .entry)) a b .spare) ⌝ }
 {
     let from = skip(work, a, b);
+    let left = spare.len();
     let m = merge(work, false, from.a, from.b, spare, 0, left);
     let end = put(spare, m.at, work, from.a);
     Joined { ok: m.ok, at: end }

@@ -66,14 +66,14 @@ module _ (s us vs : List ℕ) {work : List ℕ} {a b e : ℕ} (at : a ≡ length
   both-fit = omega (arith, ap length (k .is), length-append (s ++ us ++ vs) (k .rest), length-append (s ++ us) vs, length-append s us)
 
 pub joins-is : {work spare work′ spare′ : List ℕ} {a b : ℕ} {r : Joined}
-    → (r ≡ joinOf 32768 work spare a b .res) × (work′ ≡ joinOf 32768 work spare a b .work) × (spare′ ≡ joinOf 32768 work spare a b .spare)
+    → (r ≡ joinOf work spare a b .res) × (work′ ≡ joinOf work spare a b .work) × (spare′ ≡ joinOf work spare a b .spare)
     → Joins work spare a b work′ r
 joins-is {work} {spare} {work′} {a = a} {b = b} (er, ew, es) s P Q e p q at bt k sp =
     let l = both-fit s (codes P) (codes Q) at bt k in
     let m = words-twice P in
     let n = words-twice Q in
     let z = length-append s (codes P) in
-    outcome codes work s (codes P ++ codes Q ++ k .rest) a (merge P Q) (joinOf 32768 work spare a b) er ew at (below s (codes P) (codes Q) at bt k)
+    outcome codes work s (codes P ++ codes Q ++ k .rest) a (merge P Q) (joinOf work spare a b) er ew at (below s (codes P) (codes Q) at bt k)
     (λ M f. omega (arith, merge-words P Q f))
-    (join.join-is P Q 32768 work spare a b p q (first s (codes P) (codes Q) at bt k) (second s (codes P) (codes Q) at bt k) (omega (arith, sp .near)) (omega arith)
-    (omega (arith, sp .near)) (omega (arith, sp .near)) (omega (arith, sp .spares)) l)
+    (join.join-is P Q work spare a b p q (first s (codes P) (codes Q) at bt k) (second s (codes P) (codes Q) at bt k) (omega (arith, sp .few)) (omega (arith, l))
+    (omega (arith, sp .spares)) l)

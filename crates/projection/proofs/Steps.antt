@@ -52,7 +52,7 @@ pub space-within : {n m at at′ : ℕ} {work work′ spare spare′ : List ℕ}
 space-within {n} {m} {at} {at′} {work} {work′} {spare} {spare′} h e f l k = record {
   fits = omega (arith, h .fits);
   spares = omega (arith, h .spares);
-  near = omega (arith, h .near);
+  few = omega (arith, h .few);
 }
 
 -- ---- outcomes, one after the other

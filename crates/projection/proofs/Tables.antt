@@ -56,6 +56,7 @@ record Sound (t : List ℕ) (roles : ℕ) : Type 0 where
   small : Small {A = ℕ} (treeOf t)
   fits : rowsIn {A = ℕ} (treeOf t) ≤ rowsOf t
   most : roles ≤ 8
+  few : rowsOf t ≤ base .rows
 
 sound : (t : List ℕ) (roles : ℕ) → checkOf base t roles ≡ accepted → Sound t roles
 sound t roles e =
@@ -67,6 +68,7 @@ sound t roles e =
       small = small-tree (m .most) (omega arith) (tree-static base t roles e) (tree-ranged base t roles e) (tree-inside base t roles e) (omega (arith, m .few));
       fits = rows;
       most = m .most;
+      few = m .few;
     }
 
 -- ---- one role after the other
@@ -94,7 +96,7 @@ module _ {t kept order : List ℕ} {roles k at : ℕ} {work₀ spare₀ work spa
       let s = sound t roles (p .checked) in
       let m = s .most in
       h .gives (treeOf t) (partsWords t k) (record { role = omega arith; keeps = p .keeps; orders = p .orders }) (s .grows) (s .fits) (s .good) (s .small) (u .stack)
-      (record { fits = omega (arith, room, s .fits); spares = omega (arith, p .spares, s .fits); near = omega (arith, p .near) })
+      (record { fits = omega (arith, room, s .fits); spares = omega (arith, p .spares, s .fits); few = omega (arith, s .fits, s .few) })
 
   pub lacking : res .ok ≡ false → present (partOf t k) ≡ false
   lacking e = go (partOf t k) found

@@ -14,7 +14,7 @@ ghost use Rattle.table.specs.Tree.{Global, loop, Arms, exchange};
 ghost use Rattle.parts.specs.mirror.Grows.{Grows, Chain, ordered};
 ghost use Rattle.reach.specs.mirror.Keeps.{Keeps};
 ghost use Rattle.chains.specs.mirror.Orders.{Listed};
-ghost use Rattle.projection.specs.mirror.Projects.{SMALL, FAR, Small, Pushed, PlannedBy, Planned, leadsOn, Enters, Walks, Closed, ArmRead, Chooses, Projects, Owns, Folds, Prepared, Parted};
+ghost use Rattle.projection.specs.mirror.Projects.{SMALL, Small, Pushed, PlannedBy, Planned, leadsOn, Enters, Walks, Closed, ArmRead, Chooses, Projects, Owns, Folds, Prepared, Parted};
 
 // Whether there is a part, and the height of the stack with it.
 pub struct Projected {
@@ -56,9 +56,6 @@ pub struct Arm {
 
 // A merge of two parts of one table has at most two words for each row, and two arm lists have one mark more.
 const SPARE: usize = Table::ROWS * 2 + 1;
-
-// No two parts on a stack have more words than this together.
-const FAR: usize = 32768;
 
 // Arguments of code words are below this; only a broken table has others.
 const SMALL: u16 = 8192;
@@ -421,7 +418,7 @@ fn fold(
     let less = left - 1;
     let arm = arm_at(table, row);
     let part = project(table, kept, order, arm.cont, role, work, end, spare, less);
-    let both = merge::join(work, spare, at, end, FAR);
+    let both = merge::join(work, spare, at, end);
     let rest = fold(
         table,
         kept,
@@ -471,7 +468,7 @@ fn put_all(
 // after the other.
 pub fn parts(table: &[u16], roles: usize, work: &mut [u16]) -> usize
     ensures { λ r. ⌜ (checkOf base (now (table .entry)) roles ≡ accepted → roles * (rowsOf (now (table .entry)) * 2) ≤ length (now (work .entry))
-        → length (now (work .entry)) < FAR → Parted (now (table .entry)) roles (now (work .exit)) r) ⌝ }
+        → Parted (now (table .entry)) roles (now (work .exit)) r) ⌝ }
 {
     let mut kept = [0u16; Table::ROWS];
     let mut order = [0u16; Table::ROWS];

@@ -35,7 +35,7 @@ same-length : tie.Need-same-length
 same-length c = search needs
 
 returns : tie.Need-returns
-returns c = λ e fits near.
+returns c = λ e fits.
     let all = c .before .before .before in
     let orders = all .before .before .before .before .before .before in
     let keeps = orders .before .before .before in
@@ -46,7 +46,6 @@ returns c = λ e fits near.
       keeps = keeps .fill .ensures _ e few;
       orders = orders .fill2 .ensures _ e few;
       fits = fits;
-      near = near;
       spares = omega arith;
     })
 

@@ -22,6 +22,7 @@ use Rattle.parts.specs.mirror.Rising.{Rising}
 use Rattle.parts.specs.mirror.Codes.{code, codes, codesArms}
 use Rattle.parts.specs.mirror.Grows.{Grows, Chain, ordered}
 use Rattle.parts.specs.mirror.Stands.{Stands}
+use Rattle.merge.specs.mirror.Merging.{MOST}
 use Rattle.reach.specs.mirror.Keeps.{Keeps}
 use Rattle.chains.specs.mirror.Orders.{Listed, Orders}
 use Rattle.projection.specs.declared.Projected.{Projected}
@@ -32,10 +33,6 @@ use Rattle.projection.specs.declared.Way.{Way}
 -- arguments of code words are below this
 abbrev pub SMALL : ℕ
 SMALL = 8192
-
--- places in the workspaces stay below this
-abbrev pub FAR : ℕ
-FAR = 32768
 
 -- ---- trees that have code words
 
@@ -68,7 +65,8 @@ pub record Stack (work : List ℕ) (at : ℕ) (s : List ℕ) : Type 0 where
 pub record Space (need at : ℕ) (work spare : List ℕ) : Type 0 where
   pub fits : at + need ≤ length work
   pub spares : need < length spare
-  pub near : length work < FAR
+  -- no merge has more words
+  pub few : need ≤ MOST
 
 -- one word more
 pub record Pushed (work : List ℕ) (at w : ℕ) (work′ : List ℕ) (e : ℕ) : Type 0 where
@@ -201,7 +199,6 @@ pub record Prepared (t kept order : List ℕ) (roles : ℕ) (work spare : List �
   pub keeps : Keeps t kept
   pub orders : Orders t order
   pub fits : roles * (rowsOf t * 2) ≤ length work
-  pub near : length work < FAR
   pub spares : rowsOf t * 2 < length spare
 
 -- the lowest role that has no part, or roles; and, where every role has one, the words of all parts one after the other
