@@ -32,8 +32,9 @@ pub fn cases(seed: u64, lines: usize) -> Vec<String> {
     maker.lines
 }
 
-/// Tables with two faults, and others that pin a reading: the order of rules, the lowest row, the trap.
-pub const PINNED: [(u32, &[u16]); 4] = [
+/// Tables with two faults, and others that pin a reading: the order of rules, the lowest row, the trap; and of K4 sends
+/// that differ later, sends with other label sets, and late sends beside a role that has no part.
+pub const PINNED: [(u32, &[u16]); 7] = [
     (
         2,
         &[
@@ -58,6 +59,29 @@ pub const PINNED: [(u32, &[u16]); 4] = [
         ],
     ),
     (3, &[4, 65535, 0, 0, 5, 0, 0, 0]),
+    (
+        3,
+        &[
+            1, 0, 1, 1, 2, 1, 2, 11, 1, 2, 1, 3, 2, 4, 4, 7, 1, 1, 2, 5, 2, 6, 6, 0, 0, 0, 0, 0, 2, 5, 8, 0,
+            1, 1, 2, 9, 2, 8, 10, 0, 0, 0, 0, 0, 2, 2, 12, 0, 1, 2, 1, 13, 2, 5, 14, 17, 1, 1, 2, 15, 2, 9,
+            16, 0, 0, 0, 0, 0, 2, 4, 18, 0, 1, 1, 2, 19, 2, 7, 20, 0, 0, 0, 0, 0,
+        ],
+    ),
+    (
+        3,
+        &[
+            1, 0, 1, 1, 2, 1, 2, 7, 1, 2, 1, 3, 2, 4, 4, 5, 0, 0, 0, 0, 2, 5, 6, 0, 0, 0, 0, 0, 2, 2, 8, 0,
+            1, 2, 1, 9, 2, 4, 10, 0, 0, 0, 0, 0,
+        ],
+    ),
+    (
+        4,
+        &[
+            1, 0, 1, 1, 2, 1, 2, 9, 1, 2, 1, 3, 2, 5, 4, 0, 1, 1, 2, 5, 2, 6, 6, 0, 1, 1, 3, 7, 2, 1, 8, 0,
+            0, 0, 0, 0, 2, 2, 10, 0, 1, 2, 1, 11, 2, 5, 12, 0, 1, 1, 2, 13, 2, 7, 14, 0, 1, 0, 3, 15, 2, 1,
+            16, 0, 0, 0, 0, 0,
+        ],
+    ),
 ];
 
 struct Maker {

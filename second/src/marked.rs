@@ -1,4 +1,4 @@
-//! The marked tables T1 to T13 of document 01, as constant numbers, with their answers.
+//! The marked tables T1 to T13 of document 01, as constant numbers, with their answers; T8's is that of document 02, K4.
 
 pub struct Marked {
     pub name: &'static str,
@@ -45,7 +45,7 @@ pub const MARKED: [Marked; 13] = [
     marked("T5", 3, T5, 0, 0),
     marked("T6", 2, T6, 10, 1),
     marked("T7", 3, T7, 0, 0),
-    marked("T8", 3, T8, 11, 2),
+    marked("T8", 3, T8, 0, 0),
     marked("T9", 2, T9, 0, 0),
     marked("T10", 9, T1, 2, 0),
     marked("T11", 2, T11, 5, 0),

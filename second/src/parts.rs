@@ -8,8 +8,7 @@ use std::cmp::Ordering;
 pub const SEND: u16 = 5;
 pub const RECEIVE: u16 = 6;
 
-/// What one role does from a row on. Arms stand in rising label order, so that equality of trees is
-/// equality as written.
+/// What one role does from a row on. Arms stand in rising label order.
 #[derive(Clone, Debug, PartialEq, Eq)]
 pub enum Part {
     End,
@@ -105,11 +104,17 @@ pub fn merge(one: Part, other: Part) -> Option<Part> {
         (Part::Receive(peer, arms), Part::Receive(same, others)) if peer == same => {
             Some(Part::Receive(peer, merge_arms(arms, others)?))
         }
-        (Part::Send(peer, arms), Part::Send(same, others)) if peer == same && arms == others => {
-            Some(Part::Send(peer, arms))
+        (Part::Send(peer, arms), Part::Send(same, others)) if peer == same && same_labels(&arms, &others) => {
+            Some(Part::Send(peer, merge_arms(arms, others)?))
         }
         _ => None,
     }
+}
+
+/// Whether two chains have the same label set. A bystander sends without knowing the choice, so each side must let it
+/// send what the other does. Labels rise and none is repeated, so that equal sets are equal lists.
+fn same_labels(one: &[Arm], other: &[Arm]) -> bool {
+    one.iter().map(|arm| arm.label).eq(other.iter().map(|arm| arm.label))
 }
 
 /// All labels of either chain in rising order, shared labels merged.

@@ -45,8 +45,9 @@ impl Grower<'_> {
         }
         match self.random.below(100) {
             0..=29 => self.single(cast, loops, budget),
-            30..=54 => self.told_choice(cast, loops, budget),
-            55..=69 => self.echoed_choice(cast, loops, budget),
+            30..=49 => self.told_choice(cast, loops, budget),
+            50..=57 => self.late_choice(cast, loops, budget),
+            58..=69 => self.echoed_choice(cast, loops, budget),
             70..=77 => self.wild_choice(cast, loops, budget),
             _ => self.around(cast, loops, budget),
         }
@@ -115,6 +116,35 @@ impl Grower<'_> {
         Plan::Exchange(sender, receiver, arms)
     }
 
+    /// A choice in whose arms a bystander first sends, the same labels in each, and is told afterwards: its sends
+    /// differ later. At times one arm has another label, and the sends have no merge.
+    fn late_choice(&mut self, cast: &[u16], loops: &[bool], budget: usize) -> Plan {
+        let (sender, receiver) = self.two(cast);
+        let Some(early) = self.random.pick(&bystanders(cast, sender, receiver)) else {
+            return self.told_choice(cast, loops, budget);
+        };
+        let peer = self.random.pick(&[sender, receiver]).unwrap_or(sender);
+        let tellers = self.tellers(cast, sender, receiver);
+        let (arms, sends) = (self.random.between(2, 3), self.random.between(1, 2));
+        let (labels, distinct, sent) = (self.labels(arms), self.labels(arms), self.labels(sends));
+        let each = (budget / (arms * sends)).saturating_sub(3 + 2 * tellers.len());
+        let arms = labels
+            .into_iter()
+            .zip(distinct)
+            .map(|(label, told)| {
+                let then = tell(&tellers, told, self.grow(cast, &guarded(loops), each));
+                let mut sent = sent.clone();
+                self.random.shuffle(&mut sent);
+                if self.random.chance(5) {
+                    sent = self.labels(sends);
+                }
+                let sends = sent.into_iter().map(|label| (label, then.clone())).collect();
+                (label, Plan::Exchange(early, peer, sends))
+            })
+            .collect();
+        Plan::Exchange(sender, receiver, arms)
+    }
+
     /// Up to two exchanges that every arm begins with, before anybody is told.
     fn common_start(&mut self, cast: &[u16]) -> Vec<(u16, u16)> {
         let count = if self.random.chance(25) { self.random.between(1, 2) } else { 0 };
@@ -123,8 +153,7 @@ impl Grower<'_> {
 
     /// Who tells each bystander, in an order in which each teller knows.
     fn tellers(&mut self, cast: &[u16], sender: u16, receiver: u16) -> Vec<(u16, u16)> {
-        let mut bystanders: Vec<u16> =
-            cast.iter().copied().filter(|&role| role != sender && role != receiver).collect();
+        let mut bystanders = bystanders(cast, sender, receiver);
         self.random.shuffle(&mut bystanders);
         // At times one is left untold, and has a part only if the arms are alike to it.
         if self.random.chance(15) {
@@ -193,6 +222,11 @@ impl Grower<'_> {
         loops.push(false);
         Plan::Loop(Box::new(self.grow(cast, &loops, budget - 1)))
     }
+}
+
+/// The roles of a cast that neither send nor receive.
+fn bystanders(cast: &[u16], sender: u16, receiver: u16) -> Vec<u16> {
+    cast.iter().copied().filter(|&role| role != sender && role != receiver).collect()
 }
 
 fn guarded(loops: &[bool]) -> Vec<bool> {

@@ -39,7 +39,7 @@ fn the_cases_kept_here() {
 #[test]
 fn the_cases_beside_the_repository() {
     let shared = folder().join("../../shared/cases");
-    compare(&shared.join("bench.in"), &shared.join("bench.out"));
+    compare(&shared.join("k4.in"), &shared.join("k4.out"));
 }
 
 #[test]

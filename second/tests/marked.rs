@@ -113,6 +113,33 @@ fn t7_role_2_sends_again() {
 }
 
 #[test]
+fn t8_role_2_sends_and_then_receives_either_reply() {
+    let part = [5, 1, 1, 0, 2, 5, 2, 0, 6, 1, 3, 0, 2, 6, 4, 5, 0, 0, 0, 0, 2, 7, 6, 0, 0, 0, 0, 0];
+    assert_eq!(block("T8", 2), padded(&part, 52));
+}
+
+#[test]
+fn t8_role_2_votes_before_the_choice_and_hears_its_reply() {
+    let (roles, tables) = tables("T8");
+    let (_, session) = fresh(&tables, roles);
+    assert_eq!(session.awaited(&tables, roles).set, 0b101, "role 2 need not know the choice to vote");
+    let (number, session) = session.send(&tables, roles, 2, 1, 5, 9);
+    assert_eq!(number, 0);
+    let (number, session) = session.send(&tables, roles, 0, 1, 2, 0);
+    assert_eq!(number, 0);
+    let (_, session) = session.receive(&tables, roles, 0, 1);
+    let (received, session) = session.receive(&tables, roles, 2, 1);
+    assert_eq!((received.number, received.label, received.payload), (0, 5, 9));
+    let (number, session) = session.send(&tables, roles, 1, 2, 6, 0);
+    assert_eq!(number, 16, "6 is the reply to the other choice");
+    let (number, session) = session.send(&tables, roles, 1, 2, 7, 0);
+    assert_eq!(number, 0);
+    let (received, session) = session.receive(&tables, roles, 1, 2);
+    assert_eq!((received.number, received.label), (0, 7));
+    assert_eq!(session.awaited(&tables, roles).lowest, 8);
+}
+
+#[test]
 fn t9_is_finished_when_fresh() {
     let (roles, tables) = tables("T9");
     let (number, session) = fresh(&tables, roles);

@@ -204,27 +204,89 @@ fn rule_11_back_and_outer_back_have_no_merge() {
 }
 
 #[test]
-fn rule_11_merge_of_sends_is_equality() {
-    let choice = |one: u16, other: u16| {
+fn rule_11_sends_merge_to_one_role_with_the_same_label() {
+    let choice = |peer: u16, label: u16| {
         rows(&[
             [1, 0, 1, 1],
             [2, 0, 2, 5],
             [1, 2, 1, 3],
-            [2, one, 4, 0],
+            [2, 4, 4, 0],
             END,
             [2, 1, 6, 0],
-            [1, 2, 1, 7],
-            [2, other, 8, 0],
+            [1, 2, peer, 7],
+            [2, label, 8, 0],
             END,
         ])
     };
-    assert_eq!(verdict(3, &choice(4, 4)), (0, 0));
-    assert_eq!(verdict(3, &choice(4, 5)), (11, 2));
+    assert_eq!(verdict(3, &choice(1, 4)), (0, 0));
+    assert_eq!(verdict(3, &choice(1, 5)), (11, 2), "another label");
+    assert_eq!(verdict(3, &choice(0, 4)), (11, 2), "another peer");
 }
 
 #[test]
-fn rule_11_equality_sorts_arms() {
-    // Role 2's send has labels 4 and 5 in both arms, in another order: the same type.
+fn rule_11_sends_with_fewer_labels_have_no_merge() {
+    let (roles, words) = PINNED[5];
+    assert_eq!(verdict(roles, words), (11, 2));
+}
+
+#[test]
+fn rule_11_sends_that_differ_later_merge_label_by_label() {
+    let (roles, words) = PINNED[4];
+    let mut room = vec![0; roles as usize * words.len()];
+    assert_eq!(open(words, roles, &mut room), Verdict { number: 0, place: 0 });
+    // Role 2 sends 4 and then receives 6 or 7, or sends 5 and then receives 8 or 9.
+    let part = rows(&[
+        [5, 1, 1, 0],
+        [2, 4, 2, 7],
+        [6, 1, 3, 0],
+        [2, 6, 4, 5],
+        END,
+        [2, 7, 6, 0],
+        END,
+        [2, 5, 8, 0],
+        [6, 1, 9, 0],
+        [2, 8, 10, 11],
+        END,
+        [2, 9, 12, 0],
+        END,
+    ]);
+    assert_eq!(room[2 * words.len()..][..part.len()], part);
+}
+
+#[test]
+fn rule_11_what_follows_a_shared_send_must_merge() {
+    // Role 2 sends 5 to role 1 in both arms; then role 1 tells it 6, or `sender` tells it 7.
+    let table = |sender: u16| {
+        rows(&[
+            [1, 0, 1, 1],
+            [2, 1, 2, 7],
+            [1, 2, 1, 3],
+            [2, 5, 4, 0],
+            [1, 1, 2, 5],
+            [2, 6, 6, 0],
+            END,
+            [2, 2, 8, 0],
+            [1, 2, 1, 9],
+            [2, 5, 10, 0],
+            [1, sender, 2, 11],
+            [2, 7, 12, 0],
+            END,
+        ])
+    };
+    assert_eq!(verdict(3, &table(1)), (0, 0), "T8");
+    assert_eq!(verdict(3, &table(0)), (11, 2));
+}
+
+#[test]
+fn rule_11_late_sends_leave_the_place_to_a_higher_role() {
+    // Role 2's sends differ later, and document 01 alone refused them; role 3 is told by different senders.
+    let (roles, words) = PINNED[6];
+    assert_eq!(verdict(roles, words), (11, 3));
+}
+
+#[test]
+fn rule_11_a_label_set_has_no_order() {
+    // Role 2's send has labels 4 and 5 in both arms, in another order: the same label set.
     let table = [
         [1, 0, 1, 1],
         [2, 0, 2, 7],
