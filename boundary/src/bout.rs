@@ -31,10 +31,12 @@ pub enum Deed {
     Awaited,
 }
 
-pub const DEEDS: [Deed; 6] = [
+pub const DEEDS: [Deed; 8] = [
     Deed::Open(Shape::Line),
     Deed::Open(Shape::Wide),
     Deed::Open(Shape::Loops),
+    Deed::Open(Shape::Replies),
+    Deed::Open(Shape::Votes),
     Deed::Send,
     Deed::Receive,
     Deed::Awaited,

@@ -6,7 +6,7 @@ use std::process::ExitCode;
 
 const USAGE: &str =
     "use: boundary fuzz SEED CALLS | boundary measure | boundary work ours|second CASE ROWS ROLES N
-CASE is line, wide, loops, send, receive or awaited";
+CASE is line, wide, loops, replies, votes, send, receive or awaited";
 
 fn main() -> ExitCode {
     let arguments: Vec<String> = std::env::args().skip(1).collect();

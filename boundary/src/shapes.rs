@@ -11,9 +11,13 @@ pub enum Shape {
     Wide,
     /// Loops inside each other, an exchange in each, and at the bottom a Back to the outermost.
     Loops,
+    /// A Loop around a choice of many arms, in each of which a bystander votes alike and then hears a reply of that arm.
+    Replies,
+    /// A Loop around a choice of two arms, in each of which a bystander votes alike again and again, and then hears a reply of that arm.
+    Votes,
 }
 
-pub const ALL: [Shape; 3] = [Shape::Line, Shape::Wide, Shape::Loops];
+pub const ALL: [Shape; 5] = [Shape::Line, Shape::Wide, Shape::Loops, Shape::Replies, Shape::Votes];
 
 /// The row counts and role counts that are measured. Each shape has a table of exactly so many rows.
 pub const ROWS: [usize; 4] = [16, 64, 128, 256];
@@ -31,6 +35,8 @@ impl Shape {
             Shape::Line => "line",
             Shape::Wide => "wide",
             Shape::Loops => "loops",
+            Shape::Replies => "replies",
+            Shape::Votes => "votes",
         }
     }
 
@@ -41,6 +47,8 @@ impl Shape {
             Shape::Line => line(row_count, roles, variant),
             Shape::Wide => wide(row_count, roles, variant),
             Shape::Loops => loops(row_count, roles, variant),
+            Shape::Replies => replies(row_count, roles, variant),
+            Shape::Votes => votes(row_count, roles, variant),
         };
         rows(&plan, None)
     }
@@ -85,6 +93,35 @@ fn loops(row_count: usize, roles: usize, variant: usize) -> Plan {
         Plan::Loop(Box::new(exchange(sender, receiver, at % 64, body)))
     });
     (0..left_over).fold(inner, |body, _| Plan::Loop(Box::new(body)))
+}
+
+/// A Loop and the choice beside, for each arm, its row, its Back, the vote and the reply. The rows that are left over are exchanges of
+/// the two that know, in the last arm.
+fn replies(row_count: usize, roles: usize, variant: usize) -> Plan {
+    // In pairs of rows: an arm with its Back is one, an exchange is one.
+    let pairs = (row_count - 2) / 2;
+    let count = (pairs / 3).min(MOST_ARMS);
+    late(count, 1, pairs - 3 * count, roles, variant)
+}
+
+/// A Loop and the choice beside, for both arms, their row, their Back, the votes and the reply; what is left over likewise.
+fn votes(row_count: usize, roles: usize, variant: usize) -> Plan {
+    let exchanges = (row_count - 2) / 2 - 2;
+    let count = exchanges / 2 - 1;
+    late(2, count, exchanges - 2 * (count + 1), roles, variant)
+}
+
+/// A choice of so many arms, with so many votes in each and the reply, and more exchanges of the two that know in the last arm.
+fn late(arms: usize, votes: usize, more: usize, roles: usize, variant: usize) -> Plan {
+    // Of two roles none is a bystander: the one that hears the choice votes.
+    let (voter, peer) = if roles == 2 { (1, 0) } else { (2 + variant % (roles - 2), 1) };
+    let arm = |at: usize| {
+        let more = if at == arms - 1 { more } else { 0 };
+        let talk = (0..more).fold(Plan::Back(0), |then, _| exchange(0, 1, 0, then));
+        let reply = exchange(peer, voter, at, talk);
+        (at as u16, (0..votes).fold(reply, |then, _| exchange(voter, peer, 0, then)))
+    };
+    Plan::Loop(Box::new(Plan::Exchange(0, 1, (0..arms).map(arm).collect())))
 }
 
 /// The roles of an exchange: a role and the next one in variant 0, others in no order that repeats in the others.
