@@ -1,5 +1,5 @@
--- Why the proof of demand 3 speaks of covering and not of parts: a table that opens, and after one step of role 3 what is left for role 2 in
--- its two arms has no merge. By computation. Assumes nothing.
+-- Why the proof of demand 3 speaks of covering and not of parts: with document 01's merge, as it stood before request K4, this table opens, and
+-- after one step of role 3 what is left for role 2 in its two arms has no merge. With K4's it has one. By computation. Assumes nothing.
 use Prim.Native.Nat.{ℕ}
 use mathlib.Core.List.{List, [], _∷_}
 use mathlib.Core.Logic.{_≢_}
@@ -14,9 +14,10 @@ use Rattle.table.specs.Limits.{base}
 use Rattle.table.specs.Rules.{breaks}
 use Rattle.table.specs.Tree.{Global, end, exchange, flight, nil, arm, treeOf}
 use Rattle.parts.specs.Merge.{merge}
+use Rattle.parts.specs.Before.{mergeBefore}
 use Rattle.parts.specs.Part.{Part, p-end, p-send, p-receive, p-nil, p-arm}
 use Rattle.parts.specs.Projection.{part}
-use Rattle.opening.specs.Opening.{openOf}
+use Rattle.opening.specs.Before.{openBefore}
 use Rattle.protocol.specs.Steps.{send, here, some-arm, Step, rule-1, rule-4, no-arm, each-arm}
 
 -- 0 tells 1 either of two things; in both 2 then tells 0 the same, 3 tells 1 either of two things, and 1 answers 2 by what it heard of both
@@ -48,8 +49,8 @@ trap =
     2 ∷ 3 ∷ 24 ∷ 0 ∷
     0 ∷ 0 ∷ 0 ∷ 0 ∷ []
 
-pub opens : openOf base trap 4 400 ≡ accepted
-unfolding openOf trap lowest sum times over chainOver hasLabel loops onlyLoops breaks merge ℕ-discrete
+pub opens : openBefore base trap 4 400 ≡ accepted
+unfolding openBefore trap lowest sum times over chainOver hasLabel loops onlyLoops breaks mergeBefore ℕ-discrete
 opens = refl
 
 -- 1 tells 2 the label l
@@ -91,6 +92,11 @@ pub left-second : part {A = ℕ} 2 (after-5 (answer 4)) ≡ some (left 4)
 unfolding part
 left-second = refl
 
-pub no-merge : merge (left 3) (left 4) ≡ none
-unfolding merge ℕ-discrete
+pub no-merge : mergeBefore (left 3) (left 4) ≡ none
+unfolding mergeBefore ℕ-discrete
 no-merge = refl
+
+-- two sends of the same label merge now, and what follows is a receive of either
+pub merges-now : merge (left 3) (left 4) ≡ some (p-send 0 (p-arm 5 (p-receive 1 (p-arm 3 p-end (p-arm 4 p-end p-nil))) p-nil))
+unfolding merge ℕ-discrete
+merges-now = refl

@@ -1,11 +1,15 @@
 -- Laws of a part's arms: which arm a label has after an arm is put in, taken out, or all are sorted. Assumes nothing.
 use Prim.Native.Nat.{ℕ, _≤_}
+use mathlib.Core.Bool.{true, true≢false}
 use mathlib.Core.Logic.{_≢_}
 use mathlib.Core.Option.{Option, none, some, bind}
 use mathlib.Core.Path.{_≡_, refl, sym, _∙_}
 use native.Mathlib.Decide.{ℕ-discrete, decLe}
 use native.Mathlib.Omega.{arith}
-use borrow.Author.Tests.{eq-eqb, ne-eqb, le-leb, lt-leb}
+use lib.Dec.{eqb}
+use borrow.Author.Tests.{eq-eqb, ne-eqb, eqb-true, le-leb, lt-leb}
+use Rattle.table.proofs.Tests.{both}
+use Rattle.parts.specs.Merge.{sameLabels}
 use Rattle.parts.specs.Part.{Part, PartArms, p-nil, p-arm, insert, rising, armOf, without}
 
 -- ---- options
@@ -71,6 +75,9 @@ at-insert l P qs = at-armOf l (insert l P qs) (armOf-insert l P qs)
 pub at-insert-other : {l k : ℕ} {R : Part} (P : Part) {qs : PartArms} → k ≢ l → At k R qs → At k R (insert l P qs)
 at-insert-other {l} {k} P {qs} n t = at-armOf k (insert l P qs) (armOf-insert-other l k P qs n ∙ armOf-at t)
 
+pub insert-at : {l k : ℕ} {R : Part} (P : Part) {qs : PartArms} → k ≢ l → At k R (insert l P qs) → At k R qs
+insert-at {l} {k} P {qs} n t = at-armOf k qs (sym (armOf-insert-other l k P qs n) ∙ armOf-at t)
+
 -- ---- the arms sorted
 
 armOf-rising : (l : ℕ) (ps : PartArms) → armOf l (rising ps) ≡ armOf l ps
@@ -102,3 +109,26 @@ armOf-without l k (p-arm j Q qs) n = go (ℕ-discrete l j) (ℕ-discrete k j) (a
 
 pub at-without : {l k : ℕ} {R : Part} {qs : PartArms} → k ≢ l → At k R qs → At k R (without l qs)
 at-without {l} {k} {qs = qs} n t = at-armOf k (without l qs) (armOf-without l k qs n ∙ armOf-at t)
+
+pub without-at : {l k : ℕ} {R : Part} (qs : PartArms) → k ≢ l → At k R (without l qs) → At k R qs
+without-at {l} {k} qs n t = at-armOf k qs (sym (armOf-without l k qs n) ∙ armOf-at t)
+
+-- ---- arms of the same labels
+
+pub labels-sym : (ps qs : PartArms) → sameLabels ps qs ≡ true → sameLabels qs ps ≡ true
+unfolding sameLabels
+labels-sym p-nil p-nil e = refl
+labels-sym p-nil (p-arm k Q qs) e = absurd (true≢false (sym e))
+labels-sym (p-arm l P ps) p-nil e = absurd (true≢false (sym e))
+labels-sym (p-arm l P ps) (p-arm k Q qs) e =
+    let (f, g) = both (eqb l k) (sameLabels ps qs) e in rw (eq-eqb k l (sym (eqb-true l k f))) (labels-sym ps qs g)
+
+pub same-at : {l : ℕ} {Q : Part} (ps qs : PartArms) → sameLabels ps qs ≡ true → At l Q qs → (P : Part) × At l P ps
+unfolding sameLabels
+same-at p-nil (p-arm k Q qs) e t = absurd (true≢false (sym e))
+same-at (p-arm j P ps) (p-arm k Q qs) e (at-here h) =
+    let (f, g) = both (eqb j k) (sameLabels ps qs) e in (P, at-here (h ∙ sym (eqb-true j k f)))
+same-at (p-arm j P ps) (p-arm k Q qs) e (at-there n t) =
+    let (f, g) = both (eqb j k) (sameLabels ps qs) e in
+    let (R, u) = same-at ps qs g t in
+    (R, at-there (λ h. n (h ∙ eqb-true j k f)) u)

@@ -1,17 +1,18 @@
 -- What merging gives, as a family: one constructor for each of document 01's rules. Everything that is proved of a merge is proved by
 -- induction over it, so that another merge rule is another constructor. Assumes nothing.
 use Prim.Native.Nat.{ℕ}
+use mathlib.Core.Bool.{Bool, true, false, cond}
 use mathlib.Core.Option.{Option, none, some}
 use mathlib.Core.Path.{_≡_, refl, sym}
 use native.Mathlib.Decide.{ℕ-discrete}
 use Rattle.parts.specs.Part.{Part, p-end, p-send, p-receive, p-loop, p-back, PartArms, p-nil, p-arm, insert, armOf, without}
-use Rattle.parts.specs.Merge.{onlyIf, same, mergeShared, merge, mergeArms}
+use Rattle.parts.specs.Merge.{onlyIf, sameLabels, mergeShared, merge, mergeArms}
 use Rattle.protocol.proofs.Parts.Arms.{none≢some, some-injective, bind-some}
 
 mutual
   pub data Merged : Part → Part → Part → Type 0 where
     m-end : Merged p-end p-end p-end
-    m-send : {q : ℕ} {ps : PartArms} → Merged (p-send q ps) (p-send q ps) (p-send q ps)
+    m-send : {q : ℕ} {ps qs ms : PartArms} → sameLabels ps qs ≡ true → MergedArms ps qs ms → Merged (p-send q ps) (p-send q qs) (p-send q ms)
     m-receive : {p : ℕ} {ps qs ms : PartArms} → MergedArms ps qs ms → Merged (p-receive p ps) (p-receive p qs) (p-receive p ms)
     m-loop : {P Q M : Part} → Merged P Q M → Merged (p-loop P) (p-loop Q) (p-loop M)
     m-back : {k : ℕ} → Merged (p-back k) (p-back k) (p-back k)
@@ -27,6 +28,10 @@ pub onlyIf-some : {X B : Type 0} {y : B} (d : Dec X) (o : Option B) → onlyIf d
 unfolding onlyIf
 onlyIf-some (yes x) o e = (x, e)
 onlyIf-some (no n) o e = none≢some e
+
+cond-some : {B : Type 0} {y : B} (b : Bool) (o : Option B) → cond b o none ≡ some y → (b ≡ true) × (o ≡ some y)
+cond-some true o e = (refl, e)
+cond-some false o e = none≢some e
 
 shared-arm : (l : ℕ) {P M : Part} {ps : PartArms} (qs : PartArms) {ms ns : PartArms} (f : Part → Option Part) (o : Option Part) → armOf l qs ≡ o
     → ((Q N : Part) → f Q ≡ some N → Merged P Q N) → mergeShared f P o ≡ some M → MergedArms ps (without l qs) ms
@@ -46,7 +51,10 @@ mutual
   merged p-end (p-back j) e = none≢some e
   merged (p-send p ps) p-end e = none≢some e
   merged (p-send p ps) (p-send q qs) e =
-      let (s, f) = onlyIf-some (same (p-send p ps) (p-send q qs)) _ e in rw (← s, ← some-injective f) m-send
+      let (s, f) = onlyIf-some (ℕ-discrete p q) _ e in
+      let (t, g) = cond-some (sameLabels ps qs) _ f in
+      let (ms, h, i) = bind-some (mergeArms ps qs) _ g in
+      rw (← s, ← some-injective i) (m-send t (mergedArms ps qs h))
   merged (p-send p ps) (p-receive q qs) e = none≢some e
   merged (p-send p ps) (p-loop Q) e = none≢some e
   merged (p-send p ps) (p-back j) e = none≢some e

@@ -108,7 +108,7 @@ module _ (roles labels r : ℕ) where
   mutual
     sound-merge : {d : ℕ} {P Q M : Part} → Merged P Q M → Sound roles labels r d P → Sound roles labels r d Q → Sound roles labels r d M
     sound-merge m-end s t = s
-    sound-merge m-send s t = s
+    sound-merge (m-send same m) (s-send h n one ss) (s-send h′ n′ one′ ts) = s-send h n (some-merge m one) (sound-mergeArms m ss ts)
     sound-merge (m-receive m) (s-receive h n one ss) (s-receive h′ n′ one′ ts) = s-receive h n (some-merge m one) (sound-mergeArms m ss ts)
     sound-merge (m-loop m) (s-loop acts s) (s-loop acts′ t) =
         s-loop (λ b. acts (headBack-down (within-merge m .0) b)) (sound-merge m s t)

@@ -1,11 +1,13 @@
 -- A part within another: what it sends the other sends, no more and no less, and what it receives the other receives, with perhaps more.
 -- Each of two parts is within their merge. Assumes nothing.
 use Prim.Native.Nat.{ℕ}
-use mathlib.Core.Logic.{_≢_}
+use mathlib.Core.Bool.{true}
+use mathlib.Core.Logic.{_≢_, _⊎_, inl, inr}
 use mathlib.Core.Path.{_≡_, sym, _∙_}
 use native.Mathlib.Decide.{ℕ-discrete}
 use Rattle.parts.specs.Part.{Part, p-end, p-send, p-receive, p-loop, p-back, PartArms, p-nil, p-arm, insert, without}
-use Rattle.protocol.proofs.Parts.Arms.{none≢some, some-injective, At, at-here, at-there, armOf-at, at-insert, at-insert-other, at-without}
+use Rattle.protocol.proofs.Parts.Arms.{none≢some, some-injective, At, at-here, at-there, armOf-at, at-insert, at-insert-other, insert-at, at-without, without-at, labels-sym, same-at}
+use Rattle.parts.specs.Merge.{sameLabels}
 use Rattle.protocol.proofs.Parts.Merged.{Merged, m-end, m-send, m-receive, m-loop, m-back, MergedArms, m-rest, m-alone, m-shared}
 
 infix 4 _⊑_
@@ -70,10 +72,39 @@ right-arm l {M} qs {ms} h hs = overs (λ k R t. go k R t (ℕ-discrete k l))
     go k R t (yes e) = rw e (over (at-insert l M ms) (h R (rw e at t)))
     go k R t (no n) = over-insert M n (each-over hs k R (at-without n t))
 
+-- the label of an arm, or one of those behind it or of the other side
+either-arm : {l k : ℕ} {P : Part} {ps qs : PartArms} → Dec (l ≡ k)
+    → (l ≢ k → ((R : Part) × At l R ps) ⊎ ((Q : Part) × At l Q (without k qs))) → ((R : Part) × At l R (p-arm k P ps)) ⊎ ((Q : Part) × At l Q qs)
+either-arm {P = P} (yes e) f = inl (P, at-here e)
+either-arm {l} {k} {P} {ps} {qs} (no n) f = go (f n)
+  where
+    go : ((R : Part) × At l R ps) ⊎ ((Q : Part) × At l Q (without k qs)) → ((R : Part) × At l R (p-arm k P ps)) ⊎ ((Q : Part) × At l Q qs)
+    go (inl t) = inl (t .0, at-there n (t .1))
+    go (inr t) = inr (t .0, without-at qs n (t .1))
+
+-- a merge has no label that neither has
+merged-at : {l : ℕ} {M : Part} {ps qs ms : PartArms} → MergedArms ps qs ms → At l M ms → ((P : Part) × At l P ps) ⊎ ((Q : Part) × At l Q qs)
+merged-at {M = M} m-rest t = inr (M, t)
+merged-at {l = l} {M = M} (m-alone {l = k} {P = P} {ps = ps} {qs = qs} lacks m e) t =
+    either-arm (ℕ-discrete l k) (λ n. merged-at m (insert-at P n (rw e at t)))
+merged-at {l = l} {M = M} (m-shared {l = k} {P = P} {M = N} {ps = ps} {qs = qs} has one m e) t =
+    either-arm (ℕ-discrete l k) (λ n. merged-at m (insert-at N n (rw e at t)))
+
+-- and so each side has each label of the merge, where both have the same
+back-at : {l : ℕ} (ps qs : PartArms) → sameLabels ps qs ≡ true → ((P : Part) × At l P ps) ⊎ ((Q : Part) × At l Q qs) → (P : Part) × At l P ps
+back-at ps qs s (inl t) = t
+back-at ps qs s (inr t) = same-at ps qs s (t .1)
+
+swapped : {X Y : Type 0} → X ⊎ Y → Y ⊎ X
+swapped (inl x) = inr x
+swapped (inr y) = inl y
+
 mutual
   pub within-merge : {P Q M : Part} → Merged P Q M → (P ⊑ M) × (Q ⊑ M)
   within-merge m-end = (w-end, w-end)
-  within-merge (m-send {q = q} {ps = ps}) = (self (p-send q ps), self (p-send q ps))
+  within-merge (m-send {ps = ps} {qs = qs} s m) =
+      let (a, b) = within-mergeArms m in
+      (w-send (each-over a) (λ l M t. back-at ps qs s (merged-at m t)), w-send (each-over b) (λ l M t. back-at qs ps (labels-sym ps qs s) (swapped (merged-at m t))))
   within-merge (m-receive m) = let (a, b) = within-mergeArms m in (w-receive (each-over a), w-receive (each-over b))
   within-merge (m-loop m) = let (a, b) = within-merge m in (w-loop a, w-loop b)
   within-merge m-back = (w-back, w-back)
