@@ -11,7 +11,8 @@ use table::Table;
 ghost use mathlib.Core.Path.{_≡_};
 ghost use mathlib.Core.Bool.{cond};
 ghost use Prim.Native.Nat.{_<_, _≤_};
-ghost use Rattle.merge.specs.mirror.Merging.{inside, kids, copyOf, equalRule, armRule, rule, stepOf, stepOut, bothOk, mergeOf, putOn, behindOf, comesFirst, behindArms, skipOf, joinOf};
+ghost use lib.ListN.{length};
+ghost use Rattle.merge.specs.mirror.Merging.{inside, kids, copyOf, equalRule, armRule, rule, stepOf, stepOut, bothOk, mergeOf, putOn, behindOf, comesFirst, behindArms, skipOf, shares, commonOn, closes, beginOf, putMarks, joinOf};
 
 // Two parts of one table have at most two words for each of its rows, and so has their merge.
 const MOST: usize = Table::ROWS * 2;
@@ -44,6 +45,13 @@ struct Step {
     b: usize,
     at: usize,
     left: usize,
+}
+
+// A place on either side, and how many actions both sides opened before it.
+struct Common {
+    a: usize,
+    b: usize,
+    marks: usize,
 }
 
 // A place on either side.
@@ -300,6 +308,87 @@ fn skip(src: &[u16], a: usize, b: usize) -> Places
     Places { a: a, b: b }
 }
 
+// The words at `x` and `y` open the same: an action and an arm of it.
+fn shares(src: &[u16], x: usize, y: usize) -> bool
+    ensures { λ r. ⌜ r ≡ shares (now (src .entry)) x y ⌝ }
+{
+    if (src.len() <= x) | (src.len() <= y) {
+        return false;
+    }
+    let w = words::peek(src, x);
+    let arm = words::peek(src, x + 1);
+    ((w % KINDS == SEND) | (w % KINDS == RECEIVE))
+        & (w == words::peek(src, y))
+        & (arm % KINDS == ARM)
+        & (arm == words::peek(src, y + 1))
+}
+
+// The places behind what the parts at `a` and `b` open in common, and how many actions that is.
+fn in_common(src: &[u16], a: usize, b: usize) -> Common
+    ensures { λ r. ⌜ r ≡ commonOn (length (now (src .entry))) (now (src .entry)) a b 0 ⌝ }
+{
+    let mut x = a;
+    let mut y = b;
+    let mut marks = 0;
+    while shares(src, x, y) {
+        x += 2;
+        y += 2;
+        marks += 1;
+    }
+    Common {
+        a: x,
+        b: y,
+        marks: marks,
+    }
+}
+
+// So many marks stand at `at`.
+fn closes(src: &[u16], at: usize, marks: usize) -> bool
+    ensures { λ r. ⌜ r ≡ closes marks (now (src .entry)) at ⌝ }
+{
+    let mut x = at;
+    let mut more = marks;
+    while (0 < more) & (x < src.len()) & (words::peek(src, x) == MARK) {
+        x += 1;
+        more -= 1;
+    }
+    more == 0
+}
+
+// The beginning that the parts at `a` and `b` have in common, where each of its actions has that one arm only: then its words stand where they
+// should, and as many marks end the merge.
+fn beginning(src: &[u16], a: usize, b: usize) -> Common
+    ensures { λ r. ⌜ r ≡ beginOf (now (src .entry)) a b ⌝ }
+{
+    let c = in_common(src, a, b);
+    let marks = c.marks;
+    if marks == 0 {
+        return c;
+    }
+    if closes(src, behind(src, c.a), marks) & closes(src, behind(src, c.b), marks) {
+        return c;
+    }
+    Common {
+        a: a,
+        b: b,
+        marks: 0,
+    }
+}
+
+// Puts so many marks at `at`, as far as `out` reaches. The answer is the place behind them.
+fn put_marks(out: &mut [u16], at: usize, marks: usize) -> usize
+    ensures { λ r. ⌜ (r ≡ putMarks marks (now (out .entry)) at .end) × (now (out .exit) ≡ putMarks marks (now (out .entry)) at .out) ⌝ }
+{
+    let mut t = at;
+    let mut more = marks;
+    while (0 < more) & (t < out.len()) {
+        words::poke(out, t, MARK);
+        t += 1;
+        more -= 1;
+    }
+    t
+}
+
 // The merge of the parts at `a` and `b` of `work` takes the place of the one at `a`. What does not stand there yet is made in `spare`, which has
 // a word for each of theirs: so many rows remain.
 pub fn join(work: &mut [u16], spare: &mut [u16], a: usize, b: usize) -> Joined
@@ -307,9 +396,11 @@ pub fn join(work: &mut [u16], spare: &mut [u16], a: usize, b: usize) -> Joined
         × (now (work .exit) ≡ joinOf (now (work .entry)) (now (spare .entry)) a b .work)
         × (now (spare .exit) ≡ joinOf (now (work .entry)) (now (spare .entry)) a b .spare) ⌝ }
 {
-    let from = skip(work, a, b);
+    let start = beginning(work, a, b);
+    let from = skip(work, start.a, start.b);
     let left = spare.len();
     let m = merge(work, false, from.a, from.b, spare, 0, left);
     let end = put(spare, m.at, work, from.a);
-    Joined { ok: m.ok, at: end }
+    let top = put_marks(work, end, start.marks);
+    Joined { ok: m.ok, at: top }
 }
