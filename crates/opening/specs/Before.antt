@@ -35,7 +35,7 @@ unfolding openBefore blocksBefore
 roomBefore lim t roles room =
     cond (eqb (openBefore lim t roles (length room) .number) ACCEPTED) (blocksBefore t roles ++ drop (roles * length t) room) room
 
--- what request K4 says of a table that it leaves as it was
+-- what request K4 promises for every table, beside the opening as it stood before
 pub record K4 (lim : Limits) (t : List ℕ) (roles : ℕ) : Type 0 where
   -- no table accepted before gets a different part: it is opened, each role's part is the one it had, and so is the whole room
   pub opens : (room : List ℕ) → openBefore lim t roles (length room) ≡ accepted
