@@ -1,6 +1,6 @@
 -- The writing of rows, one code at a time: what the code does at each step is what its mirror says. Assumes nothing.
 use Prim.Native.Nat.{ℕ, zero, suc, _+_, _-_, _<_, _≤_, _/_, _%_}
-use mathlib.Core.Bool.{Bool, true, false, cond, _&&_}
+use mathlib.Core.Bool.{Bool, true, false, cond, _&&_, _||_}
 use mathlib.Core.List.{List}
 use mathlib.Core.Logic.{_≢_, _⊎_, ⊎-elim}
 use mathlib.Core.Path.{_≡_, refl, sym, _∙_}
@@ -11,7 +11,7 @@ use lib.ListN.{getD, set}
 use borrow.Author.Tests.{lt-ltb, le-ltb, eq-eqb, ne-eqb, eqb-false, ltb-true, leb-true}
 use Rattle.words.proofs.Below.{and-both}
 use Rattle.words.specs.Rows.{word, putRow}
-use Rattle.layout.specs.mirror.Lay.{LIMIT, inside, Inside, stepAt, loopRow, nextRow, openArm, closeArm, resume, putLoop, putLast, lastRow, putAction, Lay, turnBody, runS, endS, clearS}
+use Rattle.layout.specs.mirror.Lay.{LIMIT, inside, Inside, stepAt, loopRow, nextRow, openArm, closeArm, resume, putLoop, putLast, lastRow, putAction, Lay, turnBody, runS, endS, clearS, layOut}
 use Rattle.layout.specs.declared.Laid.{Laid}
 use Rattle.layout.specs.declared.Resumed.{Resumed}
 
@@ -196,3 +196,10 @@ module _ (before : Lay) (n : ℕ) (s : List ℕ) (from i : ℕ) (out : List ℕ)
     pub lay-action : 2 ≤ w % 8 → w % 8 ≢ 2 → w % 8 ≢ 3 → w % 8 ≢ 4 → w % 8 ≢ 7 → (o : List ℕ) → o ≡ putAction w out from row
         → Next (i + 1) o (row + 1) loops depth wait (n - 1)
     lay-action h n2 n3 n4 n7 o eo = rw (step 5 (action-step (w % 8) (omega arith) (omega arith)), ← ew, ← eo)
+
+-- the block: what `lay` and `clear` leave
+pub laid-out : (s : List ℕ) (i : ℕ) (out : List ℕ) (from rows : ℕ) (loops : List ℕ) (r : Laid) (o l o′ : List ℕ) → (ltb LIMIT from || ltb LIMIT rows) ≡ false
+    → Ends r o l (runS LIMIT s from i out 0 loops 0 0) → o′ ≡ clearS o (from + r .row) (rows - r .row)
+    → (r .code ≡ layOut s i out from rows loops .res .code) × (o′ ≡ layOut s i out from rows loops .out) × (l ≡ layOut s i out from rows loops .loops)
+unfolding layOut
+laid-out s i out from rows loops r o l o′ e h f = rw (e, f, ← (h .0), ← (h .1), ← (h .2)) (refl, refl, refl)

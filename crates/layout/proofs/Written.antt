@@ -8,13 +8,13 @@ use native.Mathlib.Numerals.{add-one}
 use lib.Dec.{ltb}
 use lib.ListN.{getD, length, set, replicate, length-append, length-set, length-replicate, replicate-append-replicate, List·getD-eq-default}
 use lib.Seq.{sets, length-sets, getD-set-same, getD-set-other}
-use borrow.Author.Tests.{lt-ltb, le-leb, ne-eqb, ltb-true, ltb-false}
+use borrow.Author.Tests.{lt-ltb, le-ltb, le-leb, ne-eqb, ltb-true, ltb-false}
 use Rattle.words.specs.Rows.{putRow}
 use Rattle.parts.specs.Part.{Part, p-end, p-send, p-receive, p-loop, p-back, PartArms, p-nil, p-arm}
 use Rattle.parts.specs.Layout.{size, sizeArms, four, nextArm, layout, layoutArms, block}
 use Rattle.parts.specs.mirror.Codes.{code, codes, codesArms}
 use Rattle.parts.specs.mirror.Stands.{Stands}
-use Rattle.layout.specs.mirror.Lay.{LIMIT, kindOf, argOf, inside, Inside, stepAt, loopRow, nextRow, Lay, runS, endS, clearS, Ready}
+use Rattle.layout.specs.mirror.Lay.{LIMIT, kindOf, argOf, inside, Inside, stepAt, loopRow, nextRow, Lay, runS, endS, clearS, layOut, Spacious}
 use Rattle.layout.specs.declared.Laid.{Laid}
 use Rattle.layout.proofs.Lays.{Ends, run-at, next-arm, next-none}
 use Rattle.layout.proofs.Stores.{row-is, length-row, row-then, row-kept, row-again}
@@ -245,22 +245,24 @@ clear-is out first (suc n) h =
     (clear-is out first n (omega arith), row-is (sets out (first * 4) zs) (first + n) 0 0 0 0 (omega (arith, length-sets out (first * 4) zs)), sets-append out (first * 4) ((first + n) * 4) zs (four 0 0 0 0) (omega (arith, length-replicate {A = ℕ} (n * 4) 0)), e, zeros-more (n * 4))
 
 -- the rows of a part, then zeros; and the place behind its codes
-pub block-is : (P : Part) (s : List ℕ) (i : ℕ) (out : List ℕ) (from rows : ℕ) (loops : List ℕ) → Ready P s i out from rows loops
-    → (r : Laid) (o l o′ : List ℕ) → Ends r o l (runS LIMIT s from i out 0 loops 0 0) → o′ ≡ clearS o (from + r .row) (rows - r .row)
-    → (o′ ≡ sets out (from * 4) (block (rows * 4) P)) × (r .code ≡ i + length (codes P))
-unfolding block
-block-is P s i out from rows loops w r o l o′ h e =
+pub block-is : (P : Part) (s : List ℕ) (i : ℕ) (out : List ℕ) (from rows : ℕ) (loops : List ℕ) → Spacious P s i out from rows loops
+    → (layOut s i out from rows loops .out ≡ sets out (from * 4) (block (rows * 4) P)) × (layOut s i out from rows loops .res .code ≡ i + length (codes P))
+unfolding block layOut
+block-is P s i out from rows loops w =
     let ws = layout 0 [] P in
     let long = length-layout P 0 [] in
     let none : Around loops 0 [] = record { many = refl; each = λ k z. absurd (omega arith) } in
     let m = writes s from P LIMIT (LIMIT - length (codes P)) i out 0 loops 0 0 [] (i + length (codes P)) (size P) (w .stands) (omega (arith, words-twice P)) none refl
     (omega arith) in
     let start : (from + 0) * 4 ≡ from * 4 = omega arith in
-    let at : r .row ≡ size P = ap (λ (x : Laid). x .row) (h .0) ∙ rw (m .ended) in
-    let put : o ≡ sets out (from * 4) ws = h .1 ∙ rw (m .ended, start) in
-    let zs : (rows - size P) * 4 ≡ rows * 4 - length ws = omega arith in (
-      e
-          ∙ rw (at, put, clear-is (sets out (from * 4) ws) (from + size P) (rows - size P) (omega (arith, length-sets out (from * 4) ws)), zs)
-          (sets-append out (from * 4) ((from + size P) * 4) ws (replicate (rows * 4 - length ws) 0) (omega arith)),
-      ap (λ (x : Laid). x .code) (h .0) ∙ rw (m .ended),
+    let zs : (rows - size P) * 4 ≡ rows * 4 - length ws = omega arith in
+    rw (
+      le-ltb LIMIT from (omega (arith, w .rows-small)),
+      le-ltb LIMIT rows (omega (arith, w .rows-small)),
+      m .ended,
+      start,
+      clear-is (sets out (from * 4) ws) (from + size P) (rows - size P) (omega (arith, length-sets out (from * 4) ws)),
+      zs,
+      sets-append out (from * 4) ((from + size P) * 4) ws (replicate (rows * 4 - length ws) 0) (omega arith),
     )
+    (refl, refl)

@@ -1,12 +1,8 @@
 // The codes of a part written as rows of four words.
 ghost use mathlib.Core.Path.{_≡_};
 ghost use Prim.Native.Nat.{_+_, _-_, _*_, _<_, _≤_};
-ghost use lib.ListN.{length, set};
-ghost use lib.Seq.{sets};
-ghost use Rattle.parts.specs.Part.{Part};
-ghost use Rattle.parts.specs.Layout.{block};
-ghost use Rattle.parts.specs.mirror.Codes.{codes};
-ghost use Rattle.layout.specs.mirror.Lay.{LIMIT, inside, loopRow, nextRow, openArm, closeArm, resume, putLoop, putLast, lastRow, putAction, runS, clearS, Ready};
+ghost use lib.ListN.{set};
+ghost use Rattle.layout.specs.mirror.Lay.{LIMIT, inside, loopRow, nextRow, openArm, closeArm, resume, putLoop, putLast, lastRow, putAction, runS, clearS, layOut};
 
 // Where the codes and the rows of a part end.
 pub struct Laid {
@@ -211,7 +207,8 @@ fn clear(out: &mut [u16], from: usize, first: usize, rows: usize)
 }
 
 // A block of so many rows, the first of them row `from` of the words, holds the part whose codes stand at `code`, then zeros. The answer is the
-// place behind those codes. `loops` is lent to keep the rows of the Loops around.
+// place behind those codes. `loops` is lent to keep the rows of the Loops around. What is written of a part's codes is proved in
+// proofs/Written.antt.
 pub fn lay_out(
     src: &[u16],
     code: usize,
@@ -220,13 +217,11 @@ pub fn lay_out(
     rows: usize,
     loops: &mut [u16],
 ) -> usize
-    ensures { λ r. ⌜ ((P : Part) → Ready P (now (src .entry)) code (now (out .entry)) from rows (now (loops .entry))
-        → (now (out .exit) ≡ sets (now (out .entry)) (from * 4) (block (rows * 4) P)) × (r ≡ code + length (codes P))) ⌝ }
+    ensures { λ r. ⌜ (r ≡ layOut (now (src .entry)) code (now (out .entry)) from rows (now (loops .entry)) .res .code)
+        × (now (out .exit) ≡ layOut (now (src .entry)) code (now (out .entry)) from rows (now (loops .entry)) .out)
+        × (now (loops .exit) ≡ layOut (now (src .entry)) code (now (out .entry)) from rows (now (loops .entry)) .loops) ⌝ }
 {
-    if LIMIT < from {
-        return code;
-    }
-    if LIMIT < rows {
+    if (LIMIT < from) | (LIMIT < rows) {
         return code;
     }
     let end = lay(src, code, out, from, loops);

@@ -22,7 +22,7 @@ use Rattle.parts.specs.Before.{partOfBefore}
 use Rattle.parts.proofs.Before.{no-other-part}
 use Rattle.opening.specs.Opening.{openOf, blocks, roomOf}
 use Rattle.opening.specs.Before.{openBefore, blocksBefore, roomBefore, K4}
-use Rattle.opening.proofs.Order.{Stage, hands-on, refuses, stage-cond, stage-both, tested-stage}
+use Rattle.projection.proofs.Order.{Stage, hands-on, refuses, stage-cond, stage-both, tested-stage, sized-stage}
 
 -- ---- the tests before rule 11, with what is tested behind them
 
@@ -31,10 +31,9 @@ earlier lim t roles room rest = sized lim t roles (refused ROOM (ltb room (roles
 
 earlier-stage : (lim : Limits) (t : List ℕ) (roles room : ℕ) → Stage (earlier lim t roles room)
 earlier-stage lim t roles room =
-    stage-both (refused WORDS (wordsBroken lim t)) _ (stage-cond WORDS 0 (wordsBroken lim t) (omega arith) (omega arith))
-    (stage-both (refused ROLES (rolesBroken lim roles)) _ (stage-cond ROLES 0 (rolesBroken lim roles) (omega arith) (omega arith))
-    (stage-both (refused ROOM (ltb room (roles * length t))) (tested lim t roles rules)
-    (stage-cond ROOM 0 (ltb room (roles * length t)) (omega arith) (omega arith)) (tested-stage lim t roles rules)))
+    let test = ltb room (roles * length t) in
+    sized-stage lim t roles (λ rest. refused ROOM test (tested lim t roles rules rest))
+    (stage-both (refused ROOM test) (tested lim t roles rules) (stage-cond ROOM 0 test (omega arith) (omega arith)) (tested-stage lim t roles rules))
 
 -- where they hand on, the table's rules are kept
 earlier-checked : (a b c : Bool) (v : Verdict) → refused WORDS a (refused ROLES b (refused ROOM c v)) ≡ accepted → refused WORDS a (refused ROLES b v) ≡ accepted

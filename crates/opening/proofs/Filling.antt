@@ -26,10 +26,10 @@ use Rattle.parts.proofs.Lengths.{length-block}
 use Rattle.parts.proofs.Rising.{holds-some}
 use Rattle.parts.proofs.Sizes.{words-twice}
 use Rattle.parts.proofs.Words.{stands-front, stands-back}
-use Rattle.projection.specs.mirror.Projects.{wordsOf, partsWords}
-use Rattle.layout.specs.mirror.Lay as lay
+use Rattle.projection.specs.mirror.Projects.{wordsOf, partsWords, Complete}
+use Rattle.layout.specs.mirror.Lay.{layOut, Spacious}
+use Rattle.layout.proofs.Written.{block-is}
 use Rattle.opening.specs.Opening.{blocks}
-use Rattle.opening.specs.mirror.Ready.{Ready}
 
 -- the room after k blocks
 pub record Filled (t room₀ : List ℕ) (k : ℕ) (room : List ℕ) : Type 0 where
@@ -90,9 +90,9 @@ block-inside roles k n l = rw (← suc-mul k n) (mul-le-mul-right n l)
 -- ---- one part more
 
 -- the first row of a block is a small number
-pub first-row : {t words : List ℕ} {roles room k : ℕ} → Ready t roles room words → k < roles → k * rowsOf t ≤ 2048
-first-row {t} {roles = roles} {k = k} ready l =
-    let m = measured base t roles (obeys base t roles (ready .checked) .sizes) in
+pub first-row : {t words : List ℕ} {roles k : ℕ} → Complete t roles words → k < roles → k * rowsOf t ≤ 2048
+first-row {t} {roles = roles} {k = k} complete l =
+    let m = measured base t roles (obeys base t roles (complete .checked) .sizes) in
     let low : k ≤ 8 = omega (arith, m .most) in
     let h : k * rowsOf t ≤ 8 * 256 = mul-le-mul low (m .few) in
     omega arith
@@ -107,25 +107,24 @@ pub laid-none : (t room : List ℕ) → Laid t room room 0 0
 unfolding partsWords
 laid-none t room = record { filled = filled-none t room; upto = refl; low = omega arith }
 
-module _ {t room₀ words room loops next : List ℕ} {roles k code code′ : ℕ} (ready : Ready t roles (length room₀) words) (l : k < roles)
+module _ {t room₀ words room : List ℕ} (loops : List ℕ) {next : List ℕ} {roles k code code′ : ℕ} (complete : Complete t roles words) (fits : roles * length t ≤ length room₀) (l : k < roles)
     (same : length room ≡ length room₀) (many : length loops ≡ 256) (laid : Laid t room₀ room k code)
-    (h : (P : Part) → lay.Ready P words code room (k * rowsOf t) (rowsOf t) loops
-    → (next ≡ sets room (k * rowsOf t * 4) (block (rowsOf t * 4) P)) × (code′ ≡ code + length (codes P))) where
+    (ends : code′ ≡ layOut words code room (k * rowsOf t) (rowsOf t) loops .res .code) (leaves : next ≡ layOut words code room (k * rowsOf t) (rowsOf t) loops .out) where
   -- the sizes that the check leaves
   few : rowsOf t ≤ 256
-  few = measured base t roles (obeys base t roles (ready .checked) .sizes) .few
+  few = measured base t roles (obeys base t roles (complete .checked) .sizes) .few
 
   most : roles ≤ 8
-  most = measured base t roles (obeys base t roles (ready .checked) .sizes) .most
+  most = measured base t roles (obeys base t roles (complete .checked) .sizes) .most
 
   whole : length t ≡ rowsOf t * 4
-  whole = measured base t roles (obeys base t roles (ready .checked) .sizes) .whole
+  whole = measured base t roles (obeys base t roles (complete .checked) .sizes) .whole
 
   start : k * rowsOf t * 4 ≡ k * length t
   start = mul-assoc k (rowsOf t) 4 ∙ ap (λ (n : ℕ). k * n) (sym whole)
 
   inside : k * length t + length t ≤ length room
-  inside = omega (arith, block-inside roles k (length t) l, ready .fits)
+  inside = omega (arith, block-inside roles k (length t) l, fits)
 
   -- the part's words are there, and the block has room for its rows
   module _ (P : Part) (e : partOf t k ≡ some P) where
@@ -134,17 +133,17 @@ module _ {t room₀ words room loops next : List ℕ} {roles k code code′ : �
         let (rest, split) = parts-split t k roles l in
         stands-back words 0 code (partsWords t k) (codes P) (omega (arith, laid .upto))
         (stands-front words 0 (partsWords t k ++ codes P) rest
-        (subst (λ (ws : List ℕ). Stands words 0 ws) (split ∙ ap (λ (o : Option Part). partsWords t k ++ wordsOf o ++ rest) e) (ready .stand)))
+        (subst (λ (ws : List ℕ). Stands words 0 ws) (split ∙ ap (λ (o : Option Part). partsWords t k ++ wordsOf o ++ rest) e) (complete .stand)))
 
     rows : size P ≤ rowsOf t
     unfolding partOf
-    rows = omega (arith, holds-some (part-size {A = ℕ} k (treeOf t)) e, tree-rows ℕ base t roles (ready .checked))
+    rows = omega (arith, holds-some (part-size {A = ℕ} k (treeOf t)) e, tree-rows ℕ base t roles (complete .checked))
 
-    can-lay : lay.Ready P words code room (k * rowsOf t) (rowsOf t) loops
+    can-lay : Spacious P words code room (k * rowsOf t) (rowsOf t) loops
     can-lay =
         let low : k ≤ 8 = omega (arith, most) in
         let twice : rowsOf t * 2 ≤ 512 = omega (arith, few) in
-        let k-few = first-row ready l in
+        let k-few = first-row complete l in
         let k-words : k * (rowsOf t * 2) ≤ 8 * 512 = mul-le-mul low twice in
         record {
           stands = stands;
@@ -155,22 +154,25 @@ module _ {t room₀ words room loops next : List ℕ} {roles k code code′ : �
           rows-small = omega (arith, few);
         }
 
+    laid-block : (next ≡ sets room (k * rowsOf t * 4) (block (rowsOf t * 4) P)) × (code′ ≡ code + length (codes P))
+    laid-block = let b = block-is P words code room (k * rowsOf t) (rowsOf t) loops can-lay in (leaves ∙ b .0, ends ∙ b .1)
+
     block-there : next ≡ take (k * length t) room ++ blockOf t (partOf t k) ++ drop (k * length t + length t) room
     unfolding blockOf
     block-there =
         let n = length-block (length t) P (omega (arith, rows, whole)) in
-        h P can-lay .0 ∙ rw (e, start, sym whole) (sets-eq (block (length t) P) room (k * length t) (omega (arith, inside)) ∙ rw n)
+        laid-block .0 ∙ rw (e, start, sym whole) (sets-eq (block (length t) P) room (k * length t) (omega (arith, inside)) ∙ rw n)
 
     one-more : length next ≡ length room → Laid t room₀ next (k + 1) code′
     unfolding partsWords
     one-more long = record {
       filled = filled-more t room₀ room next k (laid .filled) inside block-there long;
-      upto = h P can-lay .1 ∙ rw (add-one k, e) (rw (laid .upto) (sym (length-append (partsWords t k) (codes P))));
-      low = omega (arith, h P can-lay .1, laid .low, words-twice P, rows, suc-mul k (rowsOf t * 2));
+      upto = laid-block .1 ∙ rw (add-one k, e) (rw (laid .upto) (sym (length-append (partsWords t k) (codes P))));
+      low = omega (arith, laid-block .1, laid .low, words-twice P, rows, suc-mul k (rowsOf t * 2));
     }
 
   pub laid-more : length next ≡ length room → Laid t room₀ next (k + 1) code′
-  laid-more long = go (partOf t k) refl (ready .parts k l)
+  laid-more long = go (partOf t k) refl (complete .parts k l)
     where
       go : (o : Option Part) → partOf t k ≡ o → present o ≡ true → Laid t room₀ next (k + 1) code′
       go none e f = absurd (true≢false (sym f))

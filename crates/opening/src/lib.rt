@@ -3,26 +3,23 @@ pub mod marked;
 
 ghost use mathlib.Core.Path.{_≡_};
 ghost use mathlib.Core.List.{_++_};
-ghost use Prim.Native.Nat.{_*_};
+ghost use Prim.Native.Nat.{_*_, _≤_};
 ghost use lib.ListN.{length, drop};
 ghost use Rattle.table.specs.Limits.{base};
 ghost use Rattle.opening.specs.Opening.{openOf, blocks, Opens};
-ghost use Rattle.opening.specs.mirror.Ready.{Ready};
+ghost use Rattle.projection.specs.mirror.Projects.{Complete};
+use projection::PARTS;
 use table::Table;
 use table::Verdict;
 
-// A part has at most two words for each row of the table.
-const PARTS: usize = Table::ROLES * Table::ROWS * 2;
-
 // Every refusal is found here, before a word of the room is written. Accepted, the words of the parts stand in `parts`.
-fn verdict(table: &[u16], roles: usize, room: usize, parts: &mut [u16]) -> Verdict
-    requires { ⌜ length (now parts) ≡ 4096 ⌝ }
+fn verdict(table: &[u16], roles: usize, room: usize, parts: &mut [u16; PARTS]) -> Verdict
     ensures { λ r. ⌜ (r ≡ openOf base (now (table .entry)) roles room)
-        × (r .number ≡ 0 → Ready (now (table .entry)) roles room (now (parts .exit))) ⌝ }
+        × (r .number ≡ 0 → Complete (now (table .entry)) roles (now (parts .exit)) × (roles * length (now (table .entry)) ≤ room)) ⌝ }
 {
     let sizes = Table::sizes(table, roles);
-    let size_number = sizes.number;
-    if size_number != Verdict::ACCEPTED {
+    let number = sizes.number;
+    if number != Verdict::ACCEPTED {
         return sizes;
     }
     if room < roles * table.len() {
@@ -31,27 +28,12 @@ fn verdict(table: &[u16], roles: usize, room: usize, parts: &mut [u16]) -> Verdi
             place: 0,
         };
     }
-    let checked = rules::check(table, roles);
-    let rule_number = checked.number;
-    if rule_number != Verdict::ACCEPTED {
-        return checked;
-    }
-    let role = projection::parts(table, roles, parts);
-    if role < roles {
-        return Verdict {
-            number: Verdict::NOPART,
-            place: role,
-        };
-    }
-    Verdict {
-        number: Verdict::ACCEPTED,
-        place: 0,
-    }
+    projection::parts(table, roles, parts)
 }
 
 // The blocks, role 0 first, over the first words of the room.
-fn fill(table: &[u16], roles: usize, parts: &[u16], room: &mut [u16])
-    requires { ⌜ Ready (now table) roles (length (now room)) (now parts) ⌝ }
+fn fill(table: &[u16], roles: usize, parts: &[u16; PARTS], room: &mut [u16])
+    requires { ⌜ Complete (now table) roles (now parts) × (roles * length (now table) ≤ length (now room)) ⌝ }
     ensures { λ _. ⌜ now (room .exit) ≡ blocks (now (table .entry)) roles ++ drop (roles * length (now (table .entry))) (now (room .entry)) ⌝ }
 {
     let rows = table.len() / 4;

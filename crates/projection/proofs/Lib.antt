@@ -3,3 +3,4 @@ pub mod Rows
 pub mod Steps
 pub mod Tables
 pub mod Walks
+pub mod Order

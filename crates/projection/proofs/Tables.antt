@@ -4,7 +4,7 @@ use mathlib.Core.Bool.{true, false, true≢false}
 use mathlib.Core.List.{List, [], _++_}
 use mathlib.Core.Option.{Option, none, some}
 use mathlib.Core.Path.{_≡_, refl, sym, _∙_, ap}
-use native.Mathlib.Nat.{mul-le-mul-right, suc-mul}
+use native.Mathlib.Nat.{mul-le-mul, mul-le-mul-right, suc-mul}
 use native.Mathlib.Numerals.{add-one}
 use native.Mathlib.Omega.{arith}
 use lib.ListN.{length, length-append}
@@ -125,3 +125,10 @@ module _ {t kept order : List ℕ} {roles k at : ℕ} {work₀ spare₀ work spa
 -- every role has a part
 pub upto-all : {t : List ℕ} {k : ℕ} {work : List ℕ} {at : ℕ} → Upto t k work at → Stands work 0 (partsWords t k)
 upto-all {t} {k} {work} u = between [] (partsWords t k) (u .stack .rest) work 0 refl (u .stack .is)
+
+-- the words of all parts have room
+pub all-words : (t : List ℕ) (roles : ℕ) → checkOf base t roles ≡ accepted → roles * (rowsOf t * 2) ≤ base .roles * (base .rows * 2)
+all-words t roles e =
+    let m = measured base t roles (obeys base t roles e .sizes) in
+    let twice : rowsOf t * 2 ≤ base .rows * 2 = omega (arith, m .few) in
+    mul-le-mul (m .most) twice

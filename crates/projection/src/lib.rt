@@ -2,6 +2,7 @@
 // argument (specs/mirror/Codes.antt of parts). `work` is a stack of such words, with `at` its height; `spare` is lent to the merges. What every
 // role needs of the table is found once: `kept`, the roles that stay in each Loop, and `order`, the arms of each chain in rising label order.
 use table::Table;
+use table::Verdict;
 ghost use mathlib.Core.Path.{_≡_};
 ghost use mathlib.Core.Logic.{_≢_};
 ghost use mathlib.Core.List.{List};
@@ -14,7 +15,7 @@ ghost use Rattle.table.specs.Tree.{Global, loop, Arms, exchange};
 ghost use Rattle.parts.specs.mirror.Grows.{Grows, Chain, ordered};
 ghost use Rattle.reach.specs.mirror.Keeps.{Keeps};
 ghost use Rattle.chains.specs.mirror.Orders.{Listed};
-ghost use Rattle.projection.specs.mirror.Projects.{SMALL, Small, Pushed, PlannedBy, Planned, leadsOn, Enters, Walks, Closed, ArmRead, Chooses, Projects, Owns, Folds, Prepared, Parted};
+ghost use Rattle.projection.specs.mirror.Projects.{SMALL, Small, Pushed, PlannedBy, Planned, leadsOn, Enters, Walks, Closed, ArmRead, Chooses, Projects, Owns, Folds, Prepared, Parted, partsOf, Complete};
 
 // Whether there is a part, and the height of the stack with it.
 pub struct Projected {
@@ -53,6 +54,9 @@ pub struct Arm {
     pub cont: usize,
     pub next: usize,
 }
+
+// The words of the parts of any table have room here: a part has at most two for each row.
+pub const PARTS: usize = Table::ROLES * Table::ROWS * 2;
 
 // A merge of two parts of one table has at most two words for each row, and two arm lists have one mark more.
 const SPARE: usize = Table::ROWS * 2 + 1;
@@ -465,15 +469,40 @@ fn put_all(
 }
 
 // The lowest role that has no part in row 0 of a table that the check accepts, or `roles`; then the words of all parts stand in `work`, one part
-// after the other.
-pub fn parts(table: &[u16], roles: usize, work: &mut [u16]) -> usize
-    ensures { λ r. ⌜ (checkOf base (now (table .entry)) roles ≡ accepted → roles * (rowsOf (now (table .entry)) * 2) ≤ length (now (work .entry))
-        → Parted (now (table .entry)) roles (now (work .exit)) r) ⌝ }
+// after the other. The merges are lent a word for each that two parts of this table can have.
+fn lowest_without(table: &[u16], roles: usize, work: &mut [u16]) -> usize
+    requires { ⌜ (checkOf base (now table) roles ≡ accepted) × (roles * (rowsOf (now table) * 2) ≤ length (now work)) ⌝ }
+    ensures { λ r. ⌜ Parted (now (table .entry)) roles (now (work .exit)) r ⌝ }
 {
     let mut kept = [0u16; Table::ROWS];
     let mut order = [0u16; Table::ROWS];
     let mut spare = [0u16; SPARE];
     reach::fill(table, &mut kept);
     chains::fill(table, &mut order);
-    put_all(table, &kept, &order, roles, work, &mut spare)
+    let words = table.len() / 4 * 2 + 1;
+    put_all(table, &kept, &order, roles, work, &mut spare[0..words])
+}
+
+// Rules 1, 2 and 4 to 11: the verdict on a table and on its parts. Where every role has one, the words of all parts stand in `work`, one part
+// after the other. Only a table that keeps the rules is projected, and there no row is met twice for a role.
+pub fn parts(table: &[u16], roles: usize, work: &mut [u16; PARTS]) -> Verdict
+    ensures { λ r. ⌜ (r ≡ partsOf base (now (table .entry)) roles)
+        × (r .number ≡ 0 → Complete (now (table .entry)) roles (now (work .exit))) ⌝ }
+{
+    let checked = rules::check(table, roles);
+    let number = checked.number;
+    if number != Verdict::ACCEPTED {
+        return checked;
+    }
+    let role = lowest_without(table, roles, work);
+    if role < roles {
+        return Verdict {
+            number: Verdict::NOPART,
+            place: role,
+        };
+    }
+    Verdict {
+        number: Verdict::ACCEPTED,
+        place: 0,
+    }
 }

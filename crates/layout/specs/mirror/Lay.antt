@@ -1,6 +1,6 @@
 -- The writing of a part's rows as the code goes through it, and what it needs to be right. Assumes nothing.
 use Prim.Native.Nat.{ℕ, zero, suc, _+_, _-_, _*_, _/_, _%_, _<_, _≤_}
-use mathlib.Core.Bool.{Bool, cond, _&&_}
+use mathlib.Core.Bool.{Bool, cond, _&&_, _||_}
 use mathlib.Core.List.{List}
 use lib.Dec.{ltb, leb, eqb}
 use lib.ListN.{getD, length, set}
@@ -124,10 +124,19 @@ unfoldable pub clearS : List ℕ → ℕ → ℕ → List ℕ
 clearS out first zero = out
 clearS out first (suc n) = putRow (clearS out first n) (first + n) 0 0 0 0
 
+-- zeros behind the rows that were written, up to so many
+abbrev pub cleared : ℕ → ℕ → Lay → Lay
+cleared from rows end = record { res = end .res; out = clearS (end .out) (from + end .res .row) (rows - end .res .row); loops = end .loops }
+
+-- a block of so many rows from the row `from` on: those of the codes from i on, then zeros
+unfoldable pub layOut : List ℕ → ℕ → List ℕ → ℕ → ℕ → List ℕ → Lay
+layOut s i out from rows loops =
+    cond (ltb LIMIT from || ltb LIMIT rows) (stop i out 0 loops) (cleared from rows (runS LIMIT s from i out 0 loops 0 0))
+
 -- ---- what the writing needs
 
 -- the codes of P stand in s from i on, and the block, the Loops and the numbers have room for so many rows
-pub record Ready (P : Part) (s : List ℕ) (i : ℕ) (out : List ℕ) (from rows : ℕ) (loops : List ℕ) : Type 0 where
+pub record Spacious (P : Part) (s : List ℕ) (i : ℕ) (out : List ℕ) (from rows : ℕ) (loops : List ℕ) : Type 0 where
   pub stands : Stands s i (codes P)
   pub rows-fit : size P ≤ rows
   pub loops-fit : rows ≤ length loops

@@ -10,8 +10,11 @@ use lib.Dec.{eqb}
 use lib.ListN.{length, getD, replicate}
 use Rattle.words.specs.Below.{lowest}
 use Rattle.words.specs.Rows.{word, rowsOf}
-use Rattle.table.specs.Limits.{base}
-use Rattle.table.specs.Check.{accepted, checkOf}
+use Rattle.table.specs.Limits.{Limits, base}
+use Rattle.table.specs.Numbers.{NOPART}
+use Rattle.table.specs.Rules.{rules}
+use Rattle.table.specs.Check.{accepted, refusedAt, sized, tested, checkOf}
+use Rattle.table.specs.declared.Verdict.{Verdict}
 use Rattle.table.specs.Kept.{Good, GoodArms, rowsIn, rowsInArms}
 use Rattle.table.specs.Tree.{Global, end, exchange, loop, back, Arms, nil, arm}
 use Rattle.parts.specs.Part.{Part, PartArms, rising}
@@ -205,3 +208,14 @@ pub record Prepared (t kept order : List ℕ) (roles : ℕ) (work spare : List �
 pub record Parted (t : List ℕ) (roles : ℕ) (work′ : List ℕ) (r : ℕ) : Type 0 where
   pub lacks : r ≡ lowest (λ k. not (present (partOf t k))) roles
   pub stands : roles ≤ r → Stands work′ 0 (partsWords t roles)
+
+-- the verdict on a table and on its parts: rules 1, 2 and 4 to 11
+unfoldable pub partsOf : Limits → List ℕ → ℕ → Verdict
+unfolding partOf tested
+partsOf lim t roles = sized lim t roles (tested lim t roles rules (refusedAt NOPART (λ r. not (present (partOf t r))) roles accepted))
+
+-- what there is where it accepts: the words of all parts, one after the other
+pub record Complete (t : List ℕ) (roles : ℕ) (words : List ℕ) : Type 0 where
+  pub checked : checkOf base t roles ≡ accepted
+  pub parts : (r : ℕ) → r < roles → present (partOf t r) ≡ true
+  pub stand : Stands words 0 (partsWords t roles)
