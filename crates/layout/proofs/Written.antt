@@ -2,7 +2,7 @@
 use Prim.Native.Nat.{ℕ, zero, suc, _+_, _*_, _-_, _/_, _%_, _<_, _≤_}
 use mathlib.Core.Bool.{Bool, true, false}
 use mathlib.Core.List.{List, [], _∷_, _++_}
-use mathlib.Core.Path.{_≡_, refl, sym, ap, _∙_}
+use mathlib.Core.Path.{_≡_, refl, sym, _∙_}
 use native.Mathlib.Omega.{arith}
 use native.Mathlib.Numerals.{add-one}
 use lib.Dec.{ltb}
@@ -15,8 +15,7 @@ use Rattle.parts.specs.Layout.{size, sizeArms, four, nextArm, layout, layoutArm
 use Rattle.parts.specs.mirror.Codes.{code, codes, codesArms}
 use Rattle.parts.specs.mirror.Stands.{Stands}
 use Rattle.layout.specs.mirror.Lay.{LIMIT, kindOf, argOf, inside, Inside, stepAt, loopRow, nextRow, Lay, runS, endS, clearS, layOut, Spacious}
-use Rattle.layout.specs.declared.Laid.{Laid}
-use Rattle.layout.proofs.Lays.{Ends, run-at, next-arm, next-none}
+use Rattle.layout.proofs.Lays.{run-at, next-arm, next-none}
 use Rattle.layout.proofs.Stores.{row-is, length-row, row-then, row-kept, row-again}
 use Rattle.parts.proofs.Lengths.{length-layout, size-pos}
 use Rattle.parts.proofs.Sizes.{words-twice}

@@ -4,3 +4,10 @@ pub mod Steps
 pub mod Tables
 pub mod Walks
 pub mod Order
+pub mod Reached
+pub mod Sets
+pub mod Filling
+pub mod Runs
+pub mod Filled
+pub mod Owned
+pub mod Places

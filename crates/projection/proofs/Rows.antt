@@ -13,7 +13,7 @@ use Rattle.parts.specs.Absent.{takesPart, leaves}
 use Rattle.parts.specs.Projection.{part, partExchange}
 use Rattle.parts.specs.mirror.Codes.{codes}
 use Rattle.parts.specs.mirror.Grows.{Grows, grows-end, grows-exchange, grows-loop, grows-back, Chain, ordered}
-use Rattle.chains.specs.mirror.Orders.{Listed}
+use Rattle.projection.specs.mirror.Orders.{Listed}
 use Rattle.projection.specs.mirror.Projects.{SMALL, Small, s-exchange, s-back, PlannedBy, Known, Planned}
 
 -- ---- one kind of row

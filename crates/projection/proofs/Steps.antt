@@ -23,7 +23,7 @@ use Rattle.parts.proofs.Grown.{ordered-rows, ordered-parts}
 use Rattle.parts.proofs.Rising.{holds-some, merge-rising}
 use Rattle.parts.proofs.Sizes.{words-twice, merge-size}
 use Rattle.parts.proofs.Laws.{part-size, part-rising}
-use Rattle.chains.specs.mirror.Orders.{Listed, listed-none, listed-arm}
+use Rattle.projection.specs.mirror.Orders.{Listed, listed-none, listed-arm}
 use Rattle.merge.specs.declared.Joined.{Joined}
 use Rattle.projection.specs.mirror.Projects.{SMALL, Small, s-exchange, SmallArms, s-nil, s-arm, Plain, plain-nil, plain-arm, Stack, Space, Pushed, Outcome, fails, puts, PlannedBy, Known, ArmRead, Chooses, Projects, Owns, Behind, behind-none, behind-some, Folds}
 use Rattle.projection.specs.declared.Projected.{Projected}

@@ -22,7 +22,7 @@ use Rattle.parts.proofs.Grown.{ordered-rows, ordered-parts}
 use Rattle.parts.proofs.Laws.{part-size}
 use Rattle.parts.proofs.Rising.{holds-some}
 use Rattle.parts.proofs.Sizes.{words-twice}
-use Rattle.chains.specs.mirror.Orders.{Listed, listed-none, listed-arm}
+use Rattle.projection.specs.mirror.Orders.{Listed, listed-none, listed-arm}
 use Rattle.projection.specs.mirror.Projects.{Small, s-exchange, s-loop, s-arm, Plain, plain-arm, Stack, Pushed, Outcome, fails, puts, SMALL, Known, Planned, ArmRead, leadsOn, marks, Wraps, wraps-none, wraps-some, Inside, Enters, Walks, Closed, Chooses, Projects}
 use Rattle.projection.specs.declared.Arm.{Arm}
 use Rattle.projection.specs.declared.Projected.{Projected}

@@ -1,6 +1,9 @@
 // The parts of the roles: a projection that goes on to higher rows and calls the merge. A part is one word a row in the order met, kind + 8 x
 // argument (specs/mirror/Codes.antt of parts). `work` is a stack of such words, with `at` its height; `spare` is lent to the merges. What every
 // role needs of the table is found once: `kept`, the roles that stay in each Loop, and `order`, the arms of each chain in rising label order.
+mod chains;
+mod reach;
+
 use table::Table;
 use table::Verdict;
 ghost use mathlib.Core.Path.{_≡_};
@@ -13,8 +16,8 @@ ghost use Rattle.table.specs.Limits.{base};
 ghost use Rattle.table.specs.Check.{accepted, checkOf};
 ghost use Rattle.table.specs.Tree.{Global, loop, Arms, exchange};
 ghost use Rattle.parts.specs.mirror.Grows.{Grows, Chain, ordered};
-ghost use Rattle.reach.specs.mirror.Keeps.{Keeps};
-ghost use Rattle.chains.specs.mirror.Orders.{Listed};
+ghost use Rattle.projection.specs.mirror.Keeps.{Keeps};
+ghost use Rattle.projection.specs.mirror.Orders.{Listed};
 ghost use Rattle.projection.specs.mirror.Projects.{SMALL, Small, Pushed, PlannedBy, Planned, leadsOn, Enters, Walks, Closed, ArmRead, Chooses, Projects, Owns, Folds, Prepared, Parted, partsOf, Complete};
 
 // Whether there is a part, and the height of the stack with it.

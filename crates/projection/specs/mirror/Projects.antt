@@ -26,8 +26,8 @@ use Rattle.parts.specs.mirror.Codes.{code, codes, codesArms}
 use Rattle.parts.specs.mirror.Grows.{Grows, Chain, ordered}
 use Rattle.parts.specs.mirror.Stands.{Stands}
 use Rattle.merge.specs.mirror.Merging.{MOST}
-use Rattle.reach.specs.mirror.Keeps.{Keeps}
-use Rattle.chains.specs.mirror.Orders.{Listed, Orders}
+use Rattle.projection.specs.mirror.Keeps.{Keeps}
+use Rattle.projection.specs.mirror.Orders.{Listed, Orders}
 use Rattle.projection.specs.declared.Projected.{Projected}
 use Rattle.projection.specs.declared.Arm.{Arm}
 use Rattle.projection.specs.declared.Step.{Step}
