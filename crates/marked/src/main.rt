@@ -1,8 +1,10 @@
 // Document 01's program: one line for each marked table, its name, refusal and place.
 use libc::STDOUT_FILENO;
+use opening::marked;
+use table::Table;
 
 // Any table with any number of roles has room enough here.
-const ROOM: usize = 8192;
+const ROOM: usize = Table::ROLES * Table::ROWS * 4;
 
 fn show(name: u64, table: &[u16], roles: usize) {
     let mut room = [0u16; ROOM];
@@ -17,17 +19,30 @@ fn show(name: u64, table: &[u16], roles: usize) {
 }
 
 fn main() {
-    show(1, &opening::marked::T1, 2);
-    show(2, &opening::marked::T2, 3);
-    show(3, &opening::marked::T3, 3);
-    show(4, &opening::marked::T4, 3);
-    show(5, &opening::marked::T5, 3);
-    show(6, &opening::marked::T6, 2);
-    show(7, &opening::marked::T7, 3);
-    show(8, &opening::marked::T8, 3);
-    show(9, &opening::marked::T9, 2);
-    show(10, &opening::marked::T1, 9);
-    show(11, &opening::marked::T11, 2);
-    show(12, &opening::marked::T12, 3);
-    show(13, &opening::marked::T13, 2);
+    let counts = marked::counts();
+    let t1 = marked::table1();
+    show(1, &t1, counts[0]);
+    let t2 = marked::table2();
+    show(2, &t2, counts[1]);
+    let t3 = marked::table3();
+    show(3, &t3, counts[2]);
+    let t4 = marked::table4();
+    show(4, &t4, counts[3]);
+    let t5 = marked::table5();
+    show(5, &t5, counts[4]);
+    let t6 = marked::table6();
+    show(6, &t6, counts[5]);
+    let t7 = marked::table7();
+    show(7, &t7, counts[6]);
+    let t8 = marked::table8();
+    show(8, &t8, counts[7]);
+    let t9 = marked::table9();
+    show(9, &t9, counts[8]);
+    show(10, &t1, counts[9]);
+    let t11 = marked::table11();
+    show(11, &t11, counts[10]);
+    let t12 = marked::table12();
+    show(12, &t12, counts[11]);
+    let t13 = marked::table13();
+    show(13, &t13, counts[12]);
 }
