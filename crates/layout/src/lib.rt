@@ -1,4 +1,10 @@
 // The codes of a part written as rows of four words.
+use parts::ARM;
+use parts::BACK;
+use parts::END;
+use parts::KINDS;
+use parts::LOOP;
+use parts::MARK;
 ghost use mathlib.Core.Path.{_≡_};
 ghost use Prim.Native.Nat.{_+_, _-_, _*_, _<_, _≤_};
 ghost use lib.ListN.{set};
@@ -37,8 +43,8 @@ fn in_range(left: usize, code: usize, from: usize, row: usize, depth: usize) -> 
 fn loop_row(word: u16, loops: &[u16], depth: usize) -> u16
     ensures { λ r. ⌜ r ≡ loopRow word (now (loops .entry)) depth ⌝ }
 {
-    let back = words::wide(word / 8);
-    if (word % 8 == 4) & (back < depth) {
+    let back = words::wide(word / KINDS);
+    if (word % KINDS == BACK) & (back < depth) {
         words::peek(loops, depth - 1 - back)
     } else {
         0
@@ -52,7 +58,7 @@ fn next_row(src: &[u16], code: usize, row: usize) -> u16
     if LIMIT < row {
         return 0;
     }
-    if words::peek(src, code) % 8 == 2 {
+    if words::peek(src, code) % KINDS == ARM {
         narrow(row)
     } else {
         0
@@ -65,7 +71,14 @@ fn open_arm(word: u16, out: &mut [u16], from: usize, row: usize, depth: usize, w
     requires { ⌜ (from ≤ LIMIT) × (row < LIMIT) × (depth ≤ LIMIT) × (wait ≤ LIMIT) ⌝ }
     ensures { λ _. ⌜ now (out .exit) ≡ openArm word (now (out .entry)) from row depth wait ⌝ }
 {
-    words::put_row(out, from + row, 2, word / 8, narrow(depth), narrow(wait));
+    words::put_row(
+        out,
+        from + row,
+        ARM,
+        word / KINDS,
+        narrow(depth),
+        narrow(wait),
+    );
 }
 
 // The part that ends before this code and this row is the continuation of the arm that waits: the arm gets its links, and what its
@@ -95,7 +108,7 @@ fn end_part(
     let depth = words::word(out, arm, 2);
     let outer = words::word(out, arm, 3);
     let next = next_row(src, code, row);
-    words::put_row(out, arm, 2, label, narrow(wait), next);
+    words::put_row(out, arm, ARM, label, narrow(wait), next);
     Resumed {
         depth: words::wide(depth),
         wait: words::wide(outer),
@@ -108,7 +121,7 @@ fn put_loop(out: &mut [u16], from: usize, row: usize, loops: &mut [u16], depth: 
     requires { ⌜ (from ≤ LIMIT) × (row < LIMIT) ⌝ }
     ensures { λ _. ⌜ (now (out .exit) ≡ putLoop (now (out .entry)) from row) × (now (loops .exit) ≡ set (now (loops .entry)) depth row) ⌝ }
 {
-    words::put_row(out, from + row, 3, narrow(row + 1), 0, 0);
+    words::put_row(out, from + row, LOOP, narrow(row + 1), 0, 0);
     words::poke(loops, depth, narrow(row));
 }
 
@@ -124,11 +137,11 @@ fn put_last(
     requires { ⌜ (from ≤ LIMIT) × (row < LIMIT) ⌝ }
     ensures { λ r. ⌜ (r ≡ lastRow word row) × (now (out .exit) ≡ putLast word (now (out .entry)) from row (now (loops .entry)) depth) ⌝ }
 {
-    if word % 8 == 1 {
+    if word % KINDS == MARK {
         return row;
     }
     let home = loop_row(word, loops, depth);
-    words::put_row(out, from + row, word % 8, home, 0, 0);
+    words::put_row(out, from + row, word % KINDS, home, 0, 0);
     row + 1
 }
 
@@ -137,7 +150,14 @@ fn put_action(word: u16, out: &mut [u16], from: usize, row: usize)
     requires { ⌜ (from ≤ LIMIT) × (row < LIMIT) ⌝ }
     ensures { λ _. ⌜ now (out .exit) ≡ putAction word (now (out .entry)) from row ⌝ }
 {
-    words::put_row(out, from + row, word % 8, word / 8, narrow(row + 1), 0);
+    words::put_row(
+        out,
+        from + row,
+        word % KINDS,
+        word / KINDS,
+        narrow(row + 1),
+        0,
+    );
 }
 
 // The codes of a part from `code` on written as the rows of the block that starts at row `from`. An arm's links are known when its
@@ -155,10 +175,10 @@ fn lay(src: &[u16], mut code: usize, out: &mut [u16], from: usize, loops: &mut [
     while in_range(left, code, from, row, depth) {
         left -= 1;
         let word = words::peek(src, code);
-        // 0 End, 1 behind the last arm, 2 an arm, 3 Loop, 4 Back, 5 Send, 6 Receive, 7 no code.
-        let kind = word % 8;
+        // Send and Receive come last; 7 is no code.
+        let kind = word % KINDS;
         match kind {
-            0 | 1 | 4 => {
+            END | MARK | BACK => {
                 row = put_last(word, out, from, row, loops, depth);
                 code += 1;
                 let end = end_part(src, code, out, from, row, wait, left);
@@ -166,13 +186,13 @@ fn lay(src: &[u16], mut code: usize, out: &mut [u16], from: usize, loops: &mut [
                 wait = end.wait;
                 left = end.left;
             }
-            2 => {
+            ARM => {
                 open_arm(word, out, from, row, depth, wait);
                 code += 1;
                 row += 1;
                 wait = row;
             }
-            3 => {
+            LOOP => {
                 put_loop(out, from, row, loops, depth);
                 code += 1;
                 row += 1;

@@ -4,6 +4,15 @@
 mod chains;
 mod reach;
 
+use parts::ARM;
+use parts::BACK;
+use parts::END;
+use parts::KINDS;
+use parts::LOOP;
+use parts::MARK;
+use parts::RECEIVE;
+use parts::SEND;
+use table::Row;
 use table::Table;
 use table::Verdict;
 ghost use mathlib.Core.Path.{_≡_};
@@ -18,7 +27,7 @@ ghost use Rattle.table.specs.Tree.{Global, loop, Arms, exchange};
 ghost use Rattle.parts.specs.mirror.Grows.{Grows, Chain, ordered};
 ghost use Rattle.projection.specs.mirror.Keeps.{Keeps};
 ghost use Rattle.projection.specs.mirror.Orders.{Listed};
-ghost use Rattle.projection.specs.mirror.Projects.{SMALL, Small, Pushed, PlannedBy, Planned, leadsOn, Enters, Walks, Closed, ArmRead, Chooses, Projects, Owns, Folds, Prepared, Parted, partsOf, Complete};
+ghost use Rattle.projection.specs.mirror.Projects.{SMALL, Small, Pushed, PlannedBy, Planned, leadsOn, wayTo, Enters, Walks, Closed, ArmRead, Chooses, Projects, Owns, Folds, Prepared, Parted, partsOf, Complete};
 
 // Whether there is a part, and the height of the stack with it.
 pub struct Projected {
@@ -64,30 +73,15 @@ pub const PARTS: usize = Table::ROLES * Table::ROWS * 2;
 // A merge of two parts of one table has at most two words for each row, and two arm lists have one mark more.
 const SPARE: usize = Table::ROWS * 2 + 1;
 
-// Arguments of code words are below this; only a broken table has others.
+// Arguments of code words are below this, as many as KINDS times it are all words; only a broken table has others.
 const SMALL: u16 = 8192;
-
-const END: u16 = 0;
-
-// The mark behind the last arm of an action.
-const MARK: u16 = 1;
-
-const ARM: u16 = 2;
-
-const LOOP: u16 = 3;
-
-const BACK: u16 = 4;
-
-const SEND: u16 = 5;
-
-const RECEIVE: u16 = 6;
 
 // The word of a kind and its argument.
 fn code(kind: u16, x: u16) -> u16
     requires { ⌜ kind < 8 ⌝ }
     ensures { λ r. ⌜ (x < SMALL → r ≡ kind + x * 8) ⌝ }
 {
-    if x < SMALL { kind + x * 8 } else { 0 }
+    if x < SMALL { kind + x * KINDS } else { 0 }
 }
 
 // One word more on the stack; nothing where it is full, so that no sum wraps.
@@ -154,15 +148,15 @@ fn plan_at(table: &[u16], kept: &[u16], order: &[u16], row: usize, role: usize) 
     let kind = words::word(table, row, 0);
     let a = words::word(table, row, 1);
     match kind {
-        1 => at_exchange(
+        Row::EXCHANGE => at_exchange(
             role,
             a,
             words::word(table, row, 2),
             words::wide(words::peek(order, row)),
             words::wide(words::word(table, row, 3)),
         ),
-        3 => at_loop(kept, row, words::wide(a), role),
-        4 => Plan {
+        Row::LOOP => at_loop(kept, row, words::wide(a), role),
+        Row::BACK => Plan {
             case: 0,
             word: code(BACK, a),
             next: 0,
@@ -229,6 +223,19 @@ fn enter(table: &[u16], plan: Plan, work: &mut [u16], at: usize) -> Step
     }
 }
 
+fn way_to(plan: Plan, at: usize, marks: usize, left: usize) -> Way
+    ensures { λ r. ⌜ r ≡ wayTo (plan .case) (plan .word) (plan .next) at marks left ⌝ }
+{
+    Way {
+        case: plan.case,
+        word: plan.word,
+        next: plan.next,
+        at: at,
+        marks: marks,
+        left: left,
+    }
+}
+
 // Goes from a row to the first one, for a role, that is a leaf or has several arms. A loop, so that no long talk stands on the call stack.
 fn walk(
     table: &[u16],
@@ -249,14 +256,7 @@ fn walk(
     while 0 < more {
         let plan = plan_at(table, kept, order, here, role);
         if !leads_on(table, order, plan.case, plan.next) {
-            return Way {
-                case: plan.case,
-                word: plan.word,
-                next: plan.next,
-                at: top,
-                marks: marks,
-                left: more,
-            };
+            return way_to(plan, top, marks, more);
         }
         let step = enter(table, plan, work, top);
         here = step.row;
@@ -264,14 +264,12 @@ fn walk(
         marks += step.marks;
         more -= 1;
     }
-    Way {
+    let nothing = Plan {
         case: 0,
         word: END,
         next: 0,
-        at: top,
-        marks: marks,
-        left: 0,
-    }
+    };
+    way_to(nothing, top, marks, 0)
 }
 
 // Puts so many marks on the stack.
@@ -317,30 +315,12 @@ fn choose(
             own(table, kept, order, way.next, role, work, arms, spare, less)
         }
         _ => {
+            let at = way.at;
             let arm = arm_at(table, way.next);
-            let first = project(
-                table,
-                kept,
-                order,
-                arm.cont,
-                role,
-                work,
-                way.at,
-                spare,
-                less,
-            );
-            let all = fold(
-                table,
-                kept,
-                order,
-                arm.next,
-                role,
-                work,
-                way.at,
-                first.at,
-                spare,
-                less,
-            );
+            let next = arm.next;
+            let first = project(table, kept, order, arm.cont, role, work, at, spare, less);
+            let end = first.at;
+            let all = fold(table, kept, order, next, role, work, at, end, spare, less);
             Projected {
                 ok: first.ok & all.ok,
                 at: all.at,
@@ -426,18 +406,9 @@ fn fold(
     let arm = arm_at(table, row);
     let part = project(table, kept, order, arm.cont, role, work, end, spare, less);
     let both = merge::join(work, spare, at, end);
-    let rest = fold(
-        table,
-        kept,
-        order,
-        arm.next,
-        role,
-        work,
-        at,
-        both.at,
-        spare,
-        less,
-    );
+    let next = arm.next;
+    let top = both.at;
+    let rest = fold(table, kept, order, next, role, work, at, top, spare, less);
     Projected {
         ok: part.ok & (both.ok & rest.ok),
         at: rest.at,

@@ -1,4 +1,6 @@
 // Which roles stay in a Loop: those in an Exchange of its body, and all of them where a Back of its body leaves it.
+use table::Row;
+use table::Table;
 ghost use mathlib.Core.Bool.{_||_};
 ghost use mathlib.Core.List.{List};
 ghost use mathlib.Core.Path.{_≡_};
@@ -26,11 +28,7 @@ struct Reach {
 fn only(role: usize) -> u16
     ensures { λ r. ⌜ r ≡ alone role ⌝ }
 {
-    if role < table::Table::ROLES {
-        1u16 << role
-    } else {
-        0
-    }
+    if role < Table::ROLES { 1u16 << role } else { 0 }
 }
 
 fn larger(a: u16, b: u16) -> u16
@@ -46,11 +44,14 @@ fn outside(out: u16) -> u16
     if 0 < out { out - 1 } else { 0 }
 }
 
+// The largest depth that a word can have.
+const DEEPEST: u16 = 65535;
+
 // How far out a Back leads. Only a broken table has the depth for which there is no next number.
 fn past(depth: u16) -> u16
     ensures { λ r. ⌜ r ≡ min (depth + 1) 65535 ⌝ }
 {
-    if depth < 65535 { depth + 1 } else { depth }
+    if depth < DEEPEST { depth + 1 } else { depth }
 }
 
 // What the row that a link leads to reaches: the link is the word k of a row.
@@ -81,7 +82,7 @@ fn below(table: &[u16], roles: &[u16], out: &[u16], row: usize) -> Reach
 {
     let kind = words::word(table, row, 0);
     match kind {
-        1 => {
+        Row::EXCHANGE => {
             let sender = words::wide(words::word(table, row, 1));
             let receiver = words::wide(words::word(table, row, 2));
             let arms = linked(table, roles, out, row, 3);
@@ -90,7 +91,7 @@ fn below(table: &[u16], roles: &[u16], out: &[u16], row: usize) -> Reach
                 out: arms.out,
             }
         }
-        2 => {
+        Row::ARM => {
             let one = linked(table, roles, out, row, 2);
             let rest = next_arms(table, roles, out, row);
             Reach {
@@ -98,14 +99,14 @@ fn below(table: &[u16], roles: &[u16], out: &[u16], row: usize) -> Reach
                 out: larger(one.out, rest.out),
             }
         }
-        3 => {
+        Row::LOOP => {
             let body = linked(table, roles, out, row, 1);
             Reach {
                 roles: body.roles,
                 out: outside(body.out),
             }
         }
-        4 => {
+        Row::BACK => {
             let depth = words::word(table, row, 1);
             Reach {
                 roles: 0,
@@ -117,7 +118,7 @@ fn below(table: &[u16], roles: &[u16], out: &[u16], row: usize) -> Reach
 }
 
 // Every role.
-const ALL: u16 = (1 << table::Table::ROLES) - 1;
+const ALL: u16 = (1 << Table::ROLES) - 1;
 
 // The roles that stay in a Loop, from what it reaches: all of them where a Back leads out of it.
 fn stay(roles: u16, out: u16) -> u16
@@ -132,8 +133,8 @@ pub fn fill(table: &[u16], kept: &mut [u16])
     ensures { λ _. ⌜ ((roles : ℕ) → checkOf base (now (table .entry)) roles ≡ accepted → rowsOf (now (table .entry)) ≤ length (now (kept .entry))
         → Keeps (now (table .entry)) (now (kept .exit))) ⌝ }
 {
-    let mut roles = [0u16; table::Table::ROWS];
-    let mut out = [0u16; table::Table::ROWS];
+    let mut roles = [0u16; Table::ROWS];
+    let mut out = [0u16; Table::ROWS];
     let mut row = table.len() / 4;
     while 0 < row {
         row -= 1;

@@ -21,14 +21,18 @@ plan-at-requires c κs = search needs
 leads-on-requires : tie.Need-leads-on-requires Inv-loop μ-loop
 leads-on-requires c κs = search needs
 
+way-to-requires : tie.Need-way-to-requires Inv-loop μ-loop
+way-to-requires c κs = search needs
+
 same-length : tie.Need-same-length Inv-loop μ-loop
-same-length c = c .before .before .before .before .loop .inv .long
+same-length c = c .before .before .before .before .before .loop .inv .long
 
 returns : tie.Need-returns Inv-loop μ-loop
 returns c =
-    let leads = c .before in
+    let branch = c .before in
+    let leads = branch .before in
     let plan = leads .before in
-    walks (plan .before .before .loop .inv) (plan .plan-at .ensures) (leads .leads-on .ensures) (c .if1 .taken)
+    rw (c .way-to .ensures) (walks (plan .before .before .loop .inv) (plan .plan-at .ensures) (leads .leads-on .ensures) (branch .if1 .taken))
 
 enter-requires : tie.Need-enter-requires Inv-loop μ-loop
 enter-requires c κs = search needs
@@ -55,11 +59,14 @@ loop-again c =
     comes-on (test .before .loop .inv) (plan .plan-at .ensures) (leads .leads-on .ensures) (branch .if1 .left) (enter .enter .ensures)
     (enter .enter .kept .1 .1 .0) (omega (arith, test .loop-test .taken))
 
+way-to-requires-2 : tie.Need-way-to-requires-2 Inv-loop μ-loop
+way-to-requires-2 c κs = search needs
+
 same-length-2 : tie.Need-same-length-2 Inv-loop μ-loop
-same-length-2 c = c .before .loop .inv .long
+same-length-2 c = c .before .before .loop .inv .long
 
 returns-2 : tie.Need-returns-2 Inv-loop μ-loop
-returns-2 c = walks-nowhere (c .before .loop .inv) (omega (arith, c .loop-test .left))
+returns-2 c = rw (c .way-to2 .ensures) (walks-nowhere (c .before .before .loop .inv) (omega (arith, c .before .loop-test .left)))
 
 pub walk-spec : {M : Type 1} → statement M
 walk-spec =
@@ -70,6 +77,7 @@ walk-spec =
     loop-holds
     plan-at-requires
     leads-on-requires
+    way-to-requires
     same-length
     returns
     enter-requires
@@ -77,5 +85,6 @@ walk-spec =
     sub-more
     loop-less
     loop-again
+    way-to-requires-2
     same-length-2
     returns-2)

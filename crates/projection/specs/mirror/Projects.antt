@@ -119,6 +119,10 @@ leadsOn t order (suc zero) i = true
 leadsOn t order (suc (suc zero)) i = not (eqb i 0) && eqb (getD order i 0) 0
 leadsOn t order (suc (suc (suc k))) i = eqb (word t i 3) 0
 
+-- a plan with what stands around its part
+abbrev pub wayTo : ℕ → ℕ → ℕ → ℕ → ℕ → ℕ → Way
+wayTo k w next at marks left = record { case = k; word = w; next = next; at = at; marks = marks; left = left }
+
 -- so many marks, each behind the last arm of an action
 abbrev pub marks : ℕ → List ℕ
 marks n = replicate n (code 1 0)
