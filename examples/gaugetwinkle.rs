@@ -1,4 +1,5 @@
 //! The C boundary declared in Rust, with a safe function over each call. The calls are total, so no function here tests anything.
+//! What `include/gaugetwinkle.h` asks of pointers holds of references: they lead to their elements, and nothing else leads to what a `&mut` leads to.
 
 /// A state. The queue from p to q has the number p × 8 + q, and its slots stand from 4 times that on, the oldest message first.
 #[derive(Clone, Debug, PartialEq, Eq)]
@@ -47,7 +48,8 @@ extern "C" {
     ) -> u8;
 }
 
-/// A state of any lengths, for whoever tests the boundary.
+/// A state of any lengths, for whoever tests the boundary. Where one slice has another length than a session's, they are no state: each
+/// call then leaves all four as they are and gives 13, or 12 if the tables are not well formed either.
 pub struct Lent<'a> {
     pub heads: &'a mut [u16],
     pub counts: &'a mut [u8],
@@ -61,17 +63,19 @@ impl Session {
     }
 }
 
-/// The number and the place.
+/// The number and the place: the row (4 to 10) or the role (11) that the number is about, else 0. Refused, the room stays as it is.
 pub fn open(table: &[u16], roles: usize, room: &mut [u16]) -> (u8, usize) {
     let mut place = 0;
     let number = unsafe { gaugetwinkle_open(table.as_ptr(), table.len(), roles, room.as_mut_ptr(), room.len(), &mut place) };
     (number, place)
 }
 
+/// A fresh state, whatever stood there before; refused with 12 it is all zeros.
 pub fn fresh(tables: &[u16], roles: usize, session: &mut Session) -> u8 {
     fresh_lent(tables, roles, session.lend())
 }
 
+/// A fresh state in slices of any lengths. Slices of other lengths stay as they are, with 12 too; only they are refused with 13.
 pub fn fresh_lent(tables: &[u16], roles: usize, s: Lent) -> u8 {
     unsafe {
         gaugetwinkle_fresh(
@@ -82,6 +86,7 @@ pub fn fresh_lent(tables: &[u16], roles: usize, s: Lent) -> u8 {
     }
 }
 
+/// Refused, the state stays as it is.
 pub fn send(tables: &[u16], roles: usize, sender: usize, receiver: usize, label: usize, payload: u32, session: &mut Session) -> u8 {
     send_lent(tables, roles, sender, receiver, label, payload, session.lend())
 }
@@ -96,7 +101,7 @@ pub fn send_lent(tables: &[u16], roles: usize, sender: usize, receiver: usize, l
     }
 }
 
-/// The number, the label and the payload.
+/// The number, the label and the payload. Refused, the last two are 0 and the state stays as it is.
 pub fn receive(tables: &[u16], roles: usize, sender: usize, receiver: usize, session: &mut Session) -> (u8, u8, u32) {
     receive_lent(tables, roles, sender, receiver, session.lend())
 }
@@ -113,6 +118,7 @@ pub fn receive_lent(tables: &[u16], roles: usize, sender: usize, receiver: usize
     (number, label, payload)
 }
 
+/// The number and the awaited roles; refused, they are 0, 0 and 8.
 pub fn awaited(tables: &[u16], roles: usize, s: &Session) -> Awaited {
     awaited_lent(tables, roles, &s.heads, &s.counts, &s.labels, &s.payloads)
 }
