@@ -2,14 +2,15 @@
 //! The calls depend on the seed alone.
 
 use crate::case::{differences, Call, Case, Memory, Outcome, State};
+use crate::fault;
 use crate::inputs::{
     any_call, damaged_state, hand_made_state, hand_made_tables, likely_call, odd_roles, opened_protocol,
     other_length, random_words, room, room_length, state_of_other_lengths, widened,
 };
 use crate::lending::Keeping;
-use crate::ours::Way;
+use crate::ours::{Buffers, Way};
 use crate::tally::{Tally, NUMBERS};
-use crate::{ours, reference, shapes};
+use crate::{reference, shapes};
 use second::cases::PINNED;
 use second::limits::{MOST_ROLES, MOST_ROWS, ROW};
 use second::marked::MARKED;
@@ -75,6 +76,7 @@ pub fn run(seed: u64, calls: u64) -> Result<Tally, Box<Difference>> {
         tables: Vec::new(),
         roles: 0,
         state: State::of(&Session::ZERO),
+        buffers: Buffers::default(),
     };
     loop {
         match fuzz.scene() {
@@ -93,6 +95,7 @@ struct Fuzz {
     tables: Vec<u16>,
     roles: usize,
     state: State,
+    buffers: Buffers,
 }
 
 impl Fuzz {
@@ -112,10 +115,11 @@ impl Fuzz {
         if self.tally.calls == self.calls {
             return Err(Stop::Enough);
         }
-        let keeping = if self.random.chance(50) { Keeping::Exact } else { Keeping::Guarded };
+        let keeping = if self.random.chance(50) { Keeping::Before } else { Keeping::Behind };
         let way = if self.random.chance(50) { Way::Declared } else { Way::Bare };
         let second = reference::outcome(&case);
-        let ours = ours::outcome(&case, keeping, way);
+        fault::note(self.tally.seed, self.tally.calls + 1);
+        let ours = self.buffers.outcome(&case, keeping, way);
         if ours.as_ref() != Ok(&second) {
             let (seed, call) = (self.tally.seed, self.tally.calls + 1);
             return Err(Stop::Differs(Box::new(Difference { seed, call, case, keeping, way, ours, second })));

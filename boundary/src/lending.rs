@@ -1,18 +1,25 @@
-//! Buffers that slices are lent from, so that a write outside a slice is seen.
+//! Memory that slices are lent from, so that a read or write outside a slice is seen: at one end of the slice lies a page that may
+//! not be touched, where the call faults at once; at the other end stand words that are looked at afterwards.
 
-/// How a slice stands in its buffer.
+use crate::pages::Pages;
+use std::marker::PhantomData;
+use std::mem::size_of;
+use std::ops::Range;
+use std::slice;
+
+/// Where a lent slice stands.
 #[derive(Clone, Copy, Debug, PartialEq, Eq)]
 pub enum Keeping {
-    /// Alone in a buffer of exactly its length: valgrind and AddressSanitizer see each read and write past it.
-    Exact,
-    /// Between guard words that are looked at afterwards: a write near the slice is seen without a tool.
-    Guarded,
+    /// It ends at a page that may not be touched.
+    Before,
+    /// It begins behind a page that may not be touched.
+    Behind,
 }
 
-/// Guard words on each side.
+/// Words at the other end that no call may change.
 const GUARDS: usize = 16;
 
-/// The word that stands around a slice.
+/// A number, and the one that stands there.
 pub trait Word: Copy + PartialEq {
     const GUARD: Self;
 }
@@ -29,34 +36,56 @@ impl Word for u32 {
     const GUARD: u32 = 0xa55a_c33c;
 }
 
-/// A copy of some words in a buffer of its own.
+/// Pages that one slice after the other is lent from. They are made anew only for a slice that they cannot hold.
 pub struct Lending<T> {
-    buffer: Box<[T]>,
-    guards: usize,
+    pages: Pages,
+    /// The slice's place among the words of the pages.
+    place: Range<usize>,
+    /// The place of the words at its other end.
+    guards: Range<usize>,
+    kind: PhantomData<T>,
+}
+
+impl<T: Word> Default for Lending<T> {
+    fn default() -> Lending<T> {
+        Lending { pages: Pages::holding(0), place: 0..0, guards: 0..0, kind: PhantomData }
+    }
 }
 
 impl<T: Word> Lending<T> {
-    pub fn new(words: &[T], keeping: Keeping) -> Lending<T> {
-        let guards = if keeping == Keeping::Guarded { GUARDS } else { 0 };
-        let mut buffer = Vec::with_capacity(words.len() + 2 * guards);
-        buffer.resize(guards, T::GUARD);
-        buffer.extend_from_slice(words);
-        buffer.resize(words.len() + 2 * guards, T::GUARD);
-        Lending { buffer: buffer.into_boxed_slice(), guards }
+    /// Puts a copy of some words where they are to be lent from.
+    pub fn put(&mut self, words: &[T], keeping: Keeping) {
+        let all = words.len() + GUARDS;
+        if all > self.words().len() {
+            self.pages = Pages::holding(all * size_of::<T>());
+        }
+        let end = self.words().len();
+        (self.place, self.guards) = match keeping {
+            Keeping::Before => (end - words.len()..end, end - all..end - words.len()),
+            Keeping::Behind => (0..words.len(), words.len()..all),
+        };
+        let (place, guards) = (self.place.clone(), self.guards.clone());
+        self.words()[place].copy_from_slice(words);
+        self.words()[guards].fill(T::GUARD);
     }
 
     pub fn lent(&mut self) -> &mut [T] {
-        let end = self.buffer.len() - self.guards;
-        &mut self.buffer[self.guards..end]
+        let place = self.place.clone();
+        &mut self.words()[place]
     }
 
-    /// The words afterwards, or the name of the slice whose guard words changed.
-    pub fn back(mut self, name: &str) -> Result<Vec<T>, String> {
-        let end = self.buffer.len() - self.guards;
-        let around = self.buffer[..self.guards].iter().chain(&self.buffer[end..]);
-        if around.into_iter().any(|&word| word != T::GUARD) {
+    /// The words afterwards, or the name of the slice beside which a word changed.
+    pub fn back(&mut self, name: &str) -> Result<Vec<T>, String> {
+        let guards = self.guards.clone();
+        if self.words()[guards].iter().any(|&word| word != T::GUARD) {
             return Err(format!("a guard word beside the {name} changed"));
         }
         Ok(self.lent().to_vec())
+    }
+
+    /// All words of the pages.
+    fn words(&mut self) -> &mut [T] {
+        // Pages are aligned for every word, hold zeros at first, and are this lending's own; a `Word` is any bits.
+        unsafe { slice::from_raw_parts_mut(self.pages.first().cast(), self.pages.bytes() / size_of::<T>()) }
     }
 }

@@ -1,7 +1,7 @@
 //! The command line: `fuzz`, `measure`, `work`.
 
 use boundary::bout::{Bout, Deed, Who};
-use boundary::{fuzz, measure};
+use boundary::{fault, fuzz, measure};
 use std::process::ExitCode;
 
 const USAGE: &str =
@@ -31,6 +31,7 @@ fn number(word: &str) -> Result<u64, String> {
 }
 
 fn print_fuzz(seed: &str, calls: &str) -> Result<(), String> {
+    fault::watch();
     let tally = fuzz::run(number(seed)?, number(calls)?).map_err(|difference| difference.to_string())?;
     print!("{tally}");
     match fuzz::lacks(&tally) {

@@ -45,8 +45,10 @@ const BARE: Calls = Calls {
     awaited: bare::awaited,
 };
 
-/// The memory of a case, each slice in a buffer of its own.
-struct Buffers {
+/// What a case lends, each slice in pages of its own. One case after the other is put there.
+#[derive(Default)]
+pub struct Buffers {
+    tables: Lending<u16>,
     room: Lending<u16>,
     heads: Lending<u16>,
     counts: Lending<u8>,
@@ -55,26 +57,27 @@ struct Buffers {
 }
 
 impl Buffers {
-    fn new(memory: &Memory, keeping: Keeping) -> Buffers {
-        Buffers {
-            room: Lending::new(&memory.room, keeping),
-            heads: Lending::new(&memory.state.heads, keeping),
-            counts: Lending::new(&memory.state.counts, keeping),
-            labels: Lending::new(&memory.state.labels, keeping),
-            payloads: Lending::new(&memory.state.payloads, keeping),
+    /// The outcome of a case by the proved library; an error says what was written that no call may write.
+    pub fn outcome(&mut self, case: &Case, keeping: Keeping, way: Way) -> Result<Outcome, String> {
+        let calls = if way == Way::Declared { &DECLARED } else { &BARE };
+        self.put(case, keeping);
+        let (number, values) = self.answer(calls, case.call, case.roles);
+        if self.tables.back("tables")? != case.tables {
+            return Err("the tables changed".to_string());
         }
+        Ok(Outcome { number, values, memory: self.back()? })
     }
 
-    fn lend(&mut self) -> Lent<'_> {
-        Lent {
-            heads: self.heads.lent(),
-            counts: self.counts.lent(),
-            labels: self.labels.lent(),
-            payloads: self.payloads.lent(),
-        }
+    fn put(&mut self, Case { tables, memory: Memory { room, state }, .. }: &Case, keeping: Keeping) {
+        self.tables.put(tables, keeping);
+        self.room.put(room, keeping);
+        self.heads.put(&state.heads, keeping);
+        self.counts.put(&state.counts, keeping);
+        self.labels.put(&state.labels, keeping);
+        self.payloads.put(&state.payloads, keeping);
     }
 
-    fn back(self) -> Result<Memory, String> {
+    fn back(&mut self) -> Result<Memory, String> {
         let state = State {
             heads: self.heads.back("heads")?,
             counts: self.counts.back("counts")?,
@@ -83,41 +86,34 @@ impl Buffers {
         };
         Ok(Memory { room: self.room.back("room")?, state })
     }
-}
 
-/// The outcome of a case by the proved library; an error says what was written that no call may write.
-pub fn outcome(case: &Case, keeping: Keeping, way: Way) -> Result<Outcome, String> {
-    let calls = if way == Way::Declared { &DECLARED } else { &BARE };
-    let mut tables = Lending::new(&case.tables, keeping);
-    let mut buffers = Buffers::new(&case.memory, keeping);
-    let (number, values) = answer(calls, case, tables.lent(), &mut buffers);
-    if tables.back("tables")? != case.tables {
-        return Err("the tables changed".to_string());
-    }
-    Ok(Outcome { number, values, memory: buffers.back()? })
-}
-
-/// The number and the values of a call.
-fn answer(calls: &Calls, case: &Case, tables: &[u16], buffers: &mut Buffers) -> (u8, [usize; 3]) {
-    let roles = case.roles;
-    match case.call {
-        Call::Open => {
-            let (number, place) = (calls.open)(tables, roles, buffers.room.lent());
-            (number, [place, 0, 0])
+    /// The number and the values of a call over what was put.
+    fn answer(&mut self, calls: &Calls, call: Call, roles: usize) -> (u8, [usize; 3]) {
+        let tables = &*self.tables.lent();
+        if call == Call::Open {
+            let (number, place) = (calls.open)(tables, roles, self.room.lent());
+            return (number, [place, 0, 0]);
         }
-        Call::Fresh => ((calls.fresh)(tables, roles, buffers.lend()), [0; 3]),
-        Call::Send { sender, receiver, label, payload } => {
-            let number = (calls.send)(tables, roles, sender, receiver, label, payload, buffers.lend());
-            (number, [0; 3])
-        }
-        Call::Receive { sender, receiver } => {
-            let (number, label, payload) = (calls.receive)(tables, roles, sender, receiver, buffers.lend());
-            (number, [usize::from(label), payload as usize, 0])
-        }
-        Call::Awaited => {
-            let lent = buffers.lend();
-            let answer = (calls.awaited)(tables, roles, lent.heads, lent.counts, lent.labels, lent.payloads);
-            (answer.number, [usize::from(answer.set), answer.count as usize, answer.lowest as usize])
+        let lent = Lent {
+            heads: self.heads.lent(),
+            counts: self.counts.lent(),
+            labels: self.labels.lent(),
+            payloads: self.payloads.lent(),
+        };
+        match call {
+            Call::Open | Call::Fresh => ((calls.fresh)(tables, roles, lent), [0; 3]),
+            Call::Send { sender, receiver, label, payload } => {
+                ((calls.send)(tables, roles, sender, receiver, label, payload, lent), [0; 3])
+            }
+            Call::Receive { sender, receiver } => {
+                let (number, label, payload) = (calls.receive)(tables, roles, sender, receiver, lent);
+                (number, [usize::from(label), payload as usize, 0])
+            }
+            Call::Awaited => {
+                let Lent { heads, counts, labels, payloads } = lent;
+                let answer = (calls.awaited)(tables, roles, heads, counts, labels, payloads);
+                (answer.number, [usize::from(answer.set), answer.count as usize, answer.lowest as usize])
+            }
         }
     }
 }

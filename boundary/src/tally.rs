@@ -16,7 +16,7 @@ pub struct Tally {
     pub kinds: [u64; Call::NAMES.len()],
     pub numbers: [u64; NUMBERS],
     pub other_lengths: u64,
-    pub guarded: u64,
+    pub behind: u64,
     pub bare: u64,
 }
 
@@ -27,7 +27,7 @@ impl Tally {
         let other_lengths = case.call != Call::Open && !case.memory.state.has_session_lengths();
         self.other_lengths += u64::from(other_lengths);
         self.numbers[usize::from(number)] += 1;
-        self.guarded += u64::from(keeping == Keeping::Guarded);
+        self.behind += u64::from(keeping == Keeping::Behind);
         self.bare += u64::from(way == Way::Bare);
     }
 
@@ -44,7 +44,7 @@ impl fmt::Display for Tally {
             writeln!(to, "{name}: {count}")?;
         }
         writeln!(to, "over a state of other lengths: {}", self.other_lengths)?;
-        writeln!(to, "exact buffers: {}, guard words: {}", self.calls - self.guarded, self.guarded)?;
+        writeln!(to, "before a guard page: {}, behind one: {}", self.calls - self.behind, self.behind)?;
         writeln!(to, "declared in examples: {}, bare: {}", self.calls - self.bare, self.bare)?;
         for (number, count) in self.numbers.iter().enumerate() {
             writeln!(to, "number {number}: {count}")?;
