@@ -39,7 +39,7 @@ module _ (ts : List ℕ) (roles rows : ℕ) (found : rows ≡ goodRows base ts r
   pub wrong-state : (rows ≡ 0 → ⊥) → STATE ≡ wrongNumber base ts roles
   wrong-state h = rw (good-tables ts roles rows found h .0)
 
--- words that were taken in and put back unchanged
+-- words that were read in and put back unchanged
 kept-by : (n : ℕ) (zeros words : List ℕ) → length zeros ≡ n → (b : Bool) → eqb (length words) n ≡ b → over n (over (length words) words zeros) words ≡ words
 kept-by n zeros words e true q =
     let m : length words ≡ n = eqb-true (length words) n q in
@@ -50,15 +50,15 @@ kept : (n : ℕ) (zeros words : List ℕ) → length zeros ≡ n → over n (ove
 kept n zeros words e = kept-by n zeros words e (eqb (length words) n) refl
 
 module _ (ts : List ℕ) (roles : ℕ) (h c l p : List ℕ) where
-  -- slices of a state's lengths are taken in as they are
-  taken-whole : isState base h c l p ≡ true → givenOf base h c l p ≡ record { whole = true; state = lent h c l p }
-  taken-whole e =
+  -- slices of a state's lengths are read in as they are
+  read-whole : isState base h c l p ≡ true → givenOf base h c l p ≡ record { whole = true; state = lent h c l p }
+  read-whole e =
       let (eh, ec, el, ep) = state-lengths h c l p e in
       rw (eh, ec, el, ep)
 
   module _ (call : Session → Answer) (g : Given) (eg : g ≡ givenOf base h c l p) (a : Answer) (ea : a ≡ givenCall base ts roles call g) where
     made-whole : isState base h c l p ≡ true → a ≡ call (lent h c l p)
-    made-whole e = ea ∙ ap (givenCall base ts roles call) (eg ∙ taken-whole e)
+    made-whole e = ea ∙ ap (givenCall base ts roles call) (eg ∙ read-whole e)
 
     made-none : isState base h c l p ≡ false → a ≡ answers (wrongNumber base ts roles) (givenOf base h c l p .state)
     made-none e = ea ∙ (ap (givenCall base ts roles call) eg ∙ rw e)
@@ -105,7 +105,7 @@ module _ (ts : List ℕ) (roles : ℕ) (h c l p : List ℕ) where
       → a ≡ awaitedOf base ts roles (g .state) → a ≡ awaitedLent base ts roles h c l p
   awaited-made g eg w a ea =
       let e : isState base h c l p ≡ true = sym (ap (λ (x : Given). x .whole) eg) ∙ w in
-      rw e (ea ∙ ap (λ (x : Given). awaitedOf base ts roles (x .state)) (eg ∙ taken-whole e))
+      rw e (ea ∙ ap (λ (x : Given). awaitedOf base ts roles (x .state)) (eg ∙ read-whole e))
 
   pub nobody-told : (g : Given) → g ≡ givenOf base h c l p → g .whole ≡ false → (n : ℕ) → n ≡ wrongNumber base ts roles
       → Told (awaitedLent base ts roles h c l p) n 0 0 8

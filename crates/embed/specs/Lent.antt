@@ -6,7 +6,7 @@ use mathlib.Core.Path.{_≡_}
 use Rattle.table.specs.Limits.{Limits}
 use Rattle.blocks.specs.Tables.{tablesGood}
 use Rattle.state.specs.Numbers.{TABLES, STATE}
-use Rattle.session.specs.Calls.{freshOf, sendOf, receiveOf}
+use Rattle.session.specs.Calls.{answers, freshOf, sendOf, receiveOf}
 use Rattle.session.specs.Awaited.{awaitedOf, nobodyAwaited}
 use Rattle.session.specs.declared.Session.{Session}
 use Rattle.session.specs.declared.Answer.{Answer}
@@ -22,7 +22,7 @@ abbrev pub lentCall : Limits → List ℕ → ℕ → (Session → Answer) → L
 lentCall lim ts roles call heads counts labels payloads =
     let s = lent heads counts labels payloads in
     cond (isState lim heads counts labels payloads) (call s)
-    (record { number = wrongNumber lim ts roles; label = 0; payload = 0; state = s })
+    (answers (wrongNumber lim ts roles) s)
 
 -- a fresh state in lent slices
 abbrev pub freshLent : Limits → List ℕ → ℕ → List ℕ → List ℕ → List ℕ → List ℕ → Answer

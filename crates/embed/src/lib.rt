@@ -24,19 +24,14 @@ fn wrong_number(tables: &[u16], roles: usize) -> u8
     Answer::STATE
 }
 
-// The answer for slices that are no state: what was taken in stays.
+// The answer for slices that are no state: what was read in stays.
 fn refused(state: Session, tables: &[u16], roles: usize) -> Answer
     ensures { λ r. ⌜ r ≡ answers (wrongNumber base (now (tables .entry)) roles) state ⌝ }
 {
-    Answer {
-        number: wrong_number(tables, roles),
-        label: 0,
-        payload: 0,
-        state: state,
-    }
+    Answer::of(wrong_number(tables, roles), state)
 }
 
-// The calls over what was taken in.
+// The calls over what was read in.
 fn made(given: Given, tables: &[u16], roles: usize) -> Answer
     ensures { λ r. ⌜ r ≡ givenCall base (now (tables .entry)) roles (λ s. freshOf base (now (tables .entry)) roles) given ⌝ }
 {
@@ -102,7 +97,7 @@ pub extern "C" fn gaugetwinkle_fresh(
     ensures { λ r. ⌜ Handed (freshLent base (now (tables .entry)) roles (now (heads .entry)) (now (counts .entry)) (now (labels .entry)) (now (payloads .entry)))
         r (now (heads .exit)) (now (counts .exit)) (now (labels .exit)) (now (payloads .exit)) ⌝ }
 {
-    let given = lent::taken(heads, counts, labels, payloads);
+    let given = lent::read_in(heads, counts, labels, payloads);
     let answer = made(given, tables, roles);
     lent::put_back(answer.state, heads, counts, labels, payloads);
     answer.number
@@ -125,7 +120,7 @@ pub extern "C" fn gaugetwinkle_send(
     ensures { λ r. ⌜ Handed (sendLent base (now (tables .entry)) roles sender receiver label payload (now (heads .entry)) (now (counts .entry)) (now (labels .entry)) (now (payloads .entry)))
         r (now (heads .exit)) (now (counts .exit)) (now (labels .exit)) (now (payloads .exit)) ⌝ }
 {
-    let given = lent::taken(heads, counts, labels, payloads);
+    let given = lent::read_in(heads, counts, labels, payloads);
     let answer = sent(given, tables, roles, sender, receiver, label, payload);
     lent::put_back(answer.state, heads, counts, labels, payloads);
     answer.number
@@ -148,7 +143,7 @@ pub extern "C" fn gaugetwinkle_receive(
     ensures { λ r. ⌜ Delivered (receiveLent base (now (tables .entry)) roles sender receiver (now (heads .entry)) (now (counts .entry)) (now (labels .entry)) (now (payloads .entry)))
         r (now (label .exit)) (now (payload .exit)) (now (heads .exit)) (now (counts .exit)) (now (labels .exit)) (now (payloads .exit)) ⌝ }
 {
-    let given = lent::taken(heads, counts, labels, payloads);
+    let given = lent::read_in(heads, counts, labels, payloads);
     let answer = received(given, tables, roles, sender, receiver);
     *label = answer.label;
     *payload = answer.payload;
@@ -172,7 +167,7 @@ pub extern "C" fn gaugetwinkle_awaited(
     ensures { λ r. ⌜ Told (awaitedLent base (now (tables .entry)) roles (now (heads .entry)) (now (counts .entry)) (now (labels .entry)) (now (payloads .entry)))
         r (now (set .exit)) (now (count .exit)) (now (lowest .exit)) ⌝ }
 {
-    let given = lent::taken(heads, counts, labels, payloads);
+    let given = lent::read_in(heads, counts, labels, payloads);
     if given.whole {
         let answer = given.state.awaited(tables, roles);
         *set = answer.set;

@@ -22,7 +22,7 @@ lent heads counts labels payloads = record { heads = heads; counts = counts; lab
 abbrev pub over : ℕ → List ℕ → List ℕ → List ℕ
 over n words old = cond (eqb (length old) n) words old
 
--- what is taken in: each slice over the zeros of no state, and whether all four are a state's
+-- what is read in: each slice over the zeros of no state, and whether all four are a state's
 abbrev pub givenOf : Limits → List ℕ → List ℕ → List ℕ → List ℕ → Given
 givenOf lim heads counts labels payloads = record {
   whole = isState lim heads counts labels payloads;

@@ -1,11 +1,12 @@
-// A state lent as four slices of any lengths: it is copied in, and what a call leaves is copied out.
+// A state lent as four slices of any lengths: it is read in, and what a call leaves is put back.
 ghost use mathlib.Core.Path.{_≡_};
+ghost use Prim.Native.Nat.{_*_};
 ghost use lib.ListN.{length};
 ghost use Rattle.table.specs.Limits.{base};
 ghost use Rattle.lent.specs.Slices.{isState, over, givenOf};
 use session::Session;
 
-// The state that was taken in, and whether the four slices have the lengths of a state.
+// The state that was read in, and whether the four slices have the lengths of a state.
 pub struct Given {
     pub whole: bool,
     pub state: Session,
@@ -62,13 +63,13 @@ fn is_state(heads: &[u16], counts: &[u8], labels: &[u8], payloads: &[u32]) -> bo
 }
 
 // The state that the slices hold: zeros for a slice of another length.
-pub fn taken(heads: &[u16], counts: &[u8], labels: &[u8], payloads: &[u32]) -> Given
+pub fn read_in(heads: &[u16], counts: &[u8], labels: &[u8], payloads: &[u32]) -> Given
     ensures { λ r. ⌜ r ≡ givenOf base (now (heads .entry)) (now (counts .entry)) (now (labels .entry)) (now (payloads .entry)) ⌝ }
 {
-    let mut own_heads = [0u16; 8];
-    let mut own_counts = [0u8; 64];
-    let mut own_labels = [0u8; 256];
-    let mut own_payloads = [0u32; 256];
+    let mut own_heads = [0u16; Session::ROLES];
+    let mut own_counts = [0u8; Session::PAIRS];
+    let mut own_labels = [0u8; Session::SLOTS];
+    let mut own_payloads = [0u32; Session::SLOTS];
     copy_u16(heads, &mut own_heads);
     copy_u8(counts, &mut own_counts);
     copy_u8(labels, &mut own_labels);
@@ -93,10 +94,10 @@ pub fn put_back(
     labels: &mut [u8],
     payloads: &mut [u32],
 )
-    ensures { λ _. ⌜ (now (heads .exit) ≡ over 8 (state .heads) (now (heads .entry)))
-        × (now (counts .exit) ≡ over 64 (state .counts) (now (counts .entry)))
-        × (now (labels .exit) ≡ over 256 (state .labels) (now (labels .entry)))
-        × (now (payloads .exit) ≡ over 256 (state .payloads) (now (payloads .entry))) ⌝ }
+    ensures { λ _. ⌜ (now (heads .exit) ≡ over (base .roles) (state .heads) (now (heads .entry)))
+        × (now (counts .exit) ≡ over (base .roles * base .roles) (state .counts) (now (counts .entry)))
+        × (now (labels .exit) ≡ over (base .roles * base .roles * base .depth) (state .labels) (now (labels .entry)))
+        × (now (payloads .exit) ≡ over (base .roles * base .roles * base .depth) (state .payloads) (now (payloads .entry))) ⌝ }
 {
     let new_heads = state.heads;
     let new_counts = state.counts;

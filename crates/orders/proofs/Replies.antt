@@ -1,11 +1,11 @@
 -- What the code says, read as a reply. Assumes nothing.
 use Prim.Native.Nat.{ℕ, _≤_}
 use mathlib.Core.Bool.{Bool, true, false, cond, not}
-use mathlib.Core.List.{List, _∷_, append-nil}
+use mathlib.Core.List.{List, [], _∷_, append-nil}
 use mathlib.Core.Logic.{_≢_}
 use mathlib.Core.Path.{_≡_, refl, sym}
 use native.Mathlib.Omega.{arith}
-use lib.ListN.{length, take, replicate}
+use lib.ListN.{length, take}
 use lib.Seq.{take-all}
 use borrow.Author.Tests.{ne-eqb}
 use Rattle.table.specs.Limits.{base}
@@ -20,7 +20,7 @@ use Rattle.orders.specs.Orders.{Kept, Reply, number, malformed, stateOf,
 use Rattle.orders.specs.Lines.{keeps}
 use Rattle.orders.specs.declared.run.Run.{Run}
 use Rattle.orders.specs.declared.run.Said.{Said}
-use Rattle.orders.specs.mirror.Said.{says, Says, saidNothing, saidOf}
+use Rattle.orders.specs.mirror.Said.{says, Says, padded, saidNothing, saidOf}
 
 pub told : {s x : Said} {ws : List ℕ} {r : Reply} → s ≡ x → x .count ≤ 9 → x .shown ≤ 8192 → says x ws ≡ r → Says s ws r
 told e few short reply = rw e record { few = few; short = short; reply = reply }
@@ -57,16 +57,16 @@ module _ (run : Run) (ws ts : List ℕ) (s : Session) (w : Awaiting) (e : ts ≡
   awaited-is : awaitedOf base (take (run .words) ws) (run .roles) s ≡ w
   awaited-is = rw (← e) (sym f)
 
-  pub hand-reply : says (saidOf run 4 (w .number ∷ w .set ∷ w .count ∷ w .lowest ∷ replicate 5 0) s) ws ≡ handed base (keeps run ws) s
+  pub hand-reply : says (saidOf run 4 (padded (w .number ∷ w .set ∷ w .count ∷ w .lowest ∷ [])) s) ws ≡ handed base (keeps run ws) s
   unfolding handed
   hand-reply = rw awaited-is
 
 module _ (run : Run) (ws ts : List ℕ) (a : Answer) (w : Awaiting) (e : ts ≡ take (run .words) ws) (f : w ≡ awaitedOf base ts (run .roles) (a .state)) where
-  pub sent-reply : says (saidOf run 4 (a .number ∷ w .set ∷ w .count ∷ w .lowest ∷ replicate 5 0) (a .state)) ws ≡ sent base (keeps run ws) a
+  pub sent-reply : says (saidOf run 4 (padded (a .number ∷ w .set ∷ w .count ∷ w .lowest ∷ [])) (a .state)) ws ≡ sent base (keeps run ws) a
   unfolding sent
   sent-reply = rw (awaited-is run ws ts (a .state) w e f)
 
-  pub received-reply : says (saidOf run 6 (a .number ∷ a .label ∷ a .payload ∷ w .set ∷ w .count ∷ w .lowest ∷ replicate 3 0) (a .state)) ws
+  pub received-reply : says (saidOf run 6 (padded (a .number ∷ a .label ∷ a .payload ∷ w .set ∷ w .count ∷ w .lowest ∷ [])) (a .state)) ws
       ≡ received base (keeps run ws) a
   unfolding received
   received-reply = rw (awaited-is run ws ts (a .state) w e f)

@@ -3,6 +3,7 @@ use crate::read;
 use crate::run;
 use crate::run::Run;
 use crate::run::Said;
+use crate::run::TOLD;
 use crate::run::Told;
 use session::Answer;
 use session::Session;
@@ -14,10 +15,11 @@ ghost use Rattle.orders.specs.Lines.{keeps};
 ghost use Rattle.orders.specs.mirror.Said.{Says};
 
 // A number, and every role's head.
-fn heads_told(number: u8, heads: [u16; 8]) -> Told
+fn heads_told(number: u8, heads: [u16; Session::ROLES]) -> Told
     ensures { λ r. ⌜ r ≡ number ∷ heads ⌝ }
 {
-    let mut told = [number as u32, 0, 0, 0, 0, 0, 0, 0, 0];
+    let mut told = [0u32; TOLD];
+    told[0] = number as u32;
     lines::wide(&heads, &mut told, 1);
     told
 }
@@ -29,7 +31,7 @@ fn fresh(run: Run, words: &[u16]) -> Said
     let answer = Session::fresh(read::first(words, run.words), run.roles);
     let state = answer.state;
     let heads = state.heads;
-    run::called(run, 9, heads_told(answer.number, heads), state)
+    run::called(run, TOLD, heads_told(answer.number, heads), state)
 }
 
 // `h` and the numbers of a state
@@ -37,17 +39,11 @@ fn hand(run: Run, state: Session, words: &[u16]) -> Said
     ensures { λ r. ⌜ Says r (now (words .entry)) (handed base (keeps run (now (words .entry))) state) ⌝ }
 {
     let waiting = state.awaited(read::first(words, run.words), run.roles);
-    let told = [
-        waiting.number as u32,
-        waiting.set as u32,
-        waiting.count,
-        waiting.lowest,
-        0,
-        0,
-        0,
-        0,
-        0,
-    ];
+    let mut told = [0u32; TOLD];
+    told[0] = waiting.number as u32;
+    told[1] = waiting.set as u32;
+    told[2] = waiting.count;
+    told[3] = waiting.lowest;
     run::called(run, 4, told, state)
 }
 
@@ -57,17 +53,11 @@ fn sent(run: Run, answer: Answer, words: &[u16]) -> Said
 {
     let after = answer.state;
     let waiting = after.awaited(read::first(words, run.words), run.roles);
-    let told = [
-        answer.number as u32,
-        waiting.set as u32,
-        waiting.count,
-        waiting.lowest,
-        0,
-        0,
-        0,
-        0,
-        0,
-    ];
+    let mut told = [0u32; TOLD];
+    told[0] = answer.number as u32;
+    told[1] = waiting.set as u32;
+    told[2] = waiting.count;
+    told[3] = waiting.lowest;
     run::called(run, 4, told, after)
 }
 
@@ -93,17 +83,13 @@ fn received(run: Run, answer: Answer, words: &[u16]) -> Said
 {
     let state = answer.state;
     let waiting = state.awaited(read::first(words, run.words), run.roles);
-    let told = [
-        answer.number as u32,
-        answer.label as u32,
-        answer.payload,
-        waiting.set as u32,
-        waiting.count,
-        waiting.lowest,
-        0,
-        0,
-        0,
-    ];
+    let mut told = [0u32; TOLD];
+    told[0] = answer.number as u32;
+    told[1] = answer.label as u32;
+    told[2] = answer.payload;
+    told[3] = waiting.set as u32;
+    told[4] = waiting.count;
+    told[5] = waiting.lowest;
     run::called(run, 6, told, state)
 }
 

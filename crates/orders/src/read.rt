@@ -2,11 +2,11 @@
 use session::Session;
 ghost use mathlib.Core.Path.{_≡_};
 ghost use mathlib.Core.Bool.{true};
-ghost use Prim.Native.Nat.{_-_};
+ghost use Prim.Native.Nat.{_+_, _-_};
 ghost use lib.ListN.{getD, take, drop, replicate};
 ghost use Rattle.table.specs.Limits.{base};
 ghost use Rattle.lines.specs.Over.{over, fits, narrowed};
-ghost use Rattle.orders.specs.Orders.{stateOf, isState};
+ghost use Rattle.orders.specs.Orders.{pairs, slots, stateOf, isState};
 
 // The numbers of a state: heads, counts, labels, payloads, each from the end of those before.
 const HEADS: usize = Session::ROLES;
@@ -80,7 +80,7 @@ pub fn first(words: &[u16], count: usize) -> &[u16]
 
 // The numbers are all words.
 fn are_words(numbers: &[u32]) -> bool
-    ensures { λ r. ⌜ r ≡ fits 65536 (now (numbers .entry)) (replicate 8 0) ⌝ }
+    ensures { λ r. ⌜ r ≡ fits 65536 (now (numbers .entry)) (replicate (base .roles) 0) ⌝ }
 {
     let mut words = [0u16; HEADS];
     lines::words(numbers, &mut words)
@@ -88,7 +88,7 @@ fn are_words(numbers: &[u32]) -> bool
 
 // The numbers are all bytes.
 fn are_bytes(numbers: &[u32]) -> bool
-    ensures { λ r. ⌜ r ≡ fits 256 (now (numbers .entry)) (replicate 320 0) ⌝ }
+    ensures { λ r. ⌜ r ≡ fits 256 (now (numbers .entry)) (replicate (pairs base + slots base) 0) ⌝ }
 {
     let mut bytes = [0u8; BYTES];
     lines::bytes(numbers, &mut bytes)
@@ -104,34 +104,34 @@ pub fn is_state(numbers: &[u32]) -> bool
     are_words(part(numbers, 0, HEADS)) & are_bytes(part(numbers, HEADS, LABELS))
 }
 
-fn heads_of(numbers: &[u32]) -> [u16; 8]
-    ensures { λ r. ⌜ r ≡ narrowed 65536 (now (numbers .entry)) (replicate 8 0) ⌝ }
+fn heads_of(numbers: &[u32]) -> [u16; Session::ROLES]
+    ensures { λ r. ⌜ r ≡ narrowed 65536 (now (numbers .entry)) (replicate (base .roles) 0) ⌝ }
 {
-    let mut heads = [0u16; 8];
+    let mut heads = [0u16; Session::ROLES];
     lines::words(numbers, &mut heads);
     heads
 }
 
-fn counts_of(numbers: &[u32]) -> [u8; 64]
-    ensures { λ r. ⌜ r ≡ narrowed 256 (now (numbers .entry)) (replicate 64 0) ⌝ }
+fn counts_of(numbers: &[u32]) -> [u8; Session::PAIRS]
+    ensures { λ r. ⌜ r ≡ narrowed 256 (now (numbers .entry)) (replicate (pairs base) 0) ⌝ }
 {
-    let mut counts = [0u8; 64];
+    let mut counts = [0u8; Session::PAIRS];
     lines::bytes(numbers, &mut counts);
     counts
 }
 
-fn labels_of(numbers: &[u32]) -> [u8; 256]
-    ensures { λ r. ⌜ r ≡ narrowed 256 (now (numbers .entry)) (replicate 256 0) ⌝ }
+fn labels_of(numbers: &[u32]) -> [u8; Session::SLOTS]
+    ensures { λ r. ⌜ r ≡ narrowed 256 (now (numbers .entry)) (replicate (slots base) 0) ⌝ }
 {
-    let mut labels = [0u8; 256];
+    let mut labels = [0u8; Session::SLOTS];
     lines::bytes(numbers, &mut labels);
     labels
 }
 
-fn payloads_of(numbers: &[u32]) -> [u32; 256]
-    ensures { λ r. ⌜ r ≡ over 0 (now (numbers .entry)) (replicate 256 0) ⌝ }
+fn payloads_of(numbers: &[u32]) -> [u32; Session::SLOTS]
+    ensures { λ r. ⌜ r ≡ over 0 (now (numbers .entry)) (replicate (slots base) 0) ⌝ }
 {
-    let mut payloads = [0u32; 256];
+    let mut payloads = [0u32; Session::SLOTS];
     lines::copy(numbers, &mut payloads);
     payloads
 }

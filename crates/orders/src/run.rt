@@ -56,10 +56,10 @@ pub fn start() -> Run
     ensures { λ r. ⌜ Starts base r ⌝ }
 {
     let state = Session {
-        heads: [0u16; 8],
-        counts: [0u8; 64],
-        labels: [0u8; 256],
-        payloads: [0u32; 256],
+        heads: [0u16; Session::ROLES],
+        counts: [0u8; Session::PAIRS],
+        labels: [0u8; Session::SLOTS],
+        payloads: [0u32; Session::SLOTS],
     };
     Run {
         roles: 0,

@@ -9,8 +9,9 @@ ghost use mathlib.Core.Path.{_≡_};
 ghost use mathlib.Core.List.{[], _∷_, _++_};
 ghost use Prim.Native.Nat.{_≤_};
 ghost use lib.ListN.{length, take};
+ghost use Rattle.table.specs.Limits.{base};
 ghost use Rattle.orders.specs.Lines.{worded, written, writes};
-ghost use Rattle.orders.specs.mirror.Said.{says};
+ghost use Rattle.orders.specs.mirror.Said.{mostTold, mostShown, mostNumbers, mostBytes, says};
 
 // `?` and a newline.
 fn ask(text: &mut [u8]) -> usize
@@ -24,7 +25,7 @@ fn ask(text: &mut [u8]) -> usize
 
 // The first `count` numbers told and then the words, at the start of `answer`. Answers how many.
 fn put(told: Told, count: usize, words: &[u16], answer: &mut [u32]) -> usize
-    requires { ⌜ (count ≤ 9) × (length (now words) ≤ 8192) × (length (now answer) ≡ 8201) ⌝ }
+    requires { ⌜ (count ≤ mostTold base) × (length (now words) ≤ mostShown base) × (length (now answer) ≡ mostNumbers base) ⌝ }
     ensures { λ r. ⌜ take r (now (answer .exit)) ≡ take count told ++ now (words .entry) ⌝ }
 {
     lines::copy(&told, answer);
@@ -33,7 +34,7 @@ fn put(told: Told, count: usize, words: &[u16], answer: &mut [u32]) -> usize
 
 // These numbers; `?` for none.
 fn write(numbers: &[u32], text: &mut [u8]) -> usize
-    requires { ⌜ (length (now numbers) ≤ 8201) × (length (now text) ≡ 90211) ⌝ }
+    requires { ⌜ (length (now numbers) ≤ mostNumbers base) × (length (now text) ≡ mostBytes base) ⌝ }
     ensures { λ r. ⌜ (take r (now (text .exit)) ≡ worded (now (numbers .entry))) × (r ≡ length (worded (now (numbers .entry)))) ⌝ }
 {
     if numbers.len() == 0 {
@@ -43,7 +44,7 @@ fn write(numbers: &[u32], text: &mut [u8]) -> usize
 }
 
 fn write_all(told: Told, count: usize, words: &[u16], text: &mut [u8]) -> usize
-    requires { ⌜ (count ≤ 9) × (length (now words) ≤ 8192) × (length (now text) ≡ 90211) ⌝ }
+    requires { ⌜ (count ≤ mostTold base) × (length (now words) ≤ mostShown base) × (length (now text) ≡ mostBytes base) ⌝ }
     ensures { λ r. ⌜ (take r (now (text .exit)) ≡ worded (take count told ++ now (words .entry)))
         × (r ≡ length (worded (take count told ++ now (words .entry)))) ⌝ }
 {
@@ -54,7 +55,7 @@ fn write_all(told: Told, count: usize, words: &[u16], text: &mut [u8]) -> usize
 
 // The answer goes to the start of `text`.
 pub fn show(said: Said, tables: &[u16], text: &mut [u8]) -> Answered
-    requires { ⌜ (said .count ≤ 9) × (said .shown ≤ 8192) × (length (now text) ≡ 90211) ⌝ }
+    requires { ⌜ (said .count ≤ mostTold base) × (said .shown ≤ mostShown base) × (length (now text) ≡ mostBytes base) ⌝ }
     ensures { λ r. ⌜ (writes r (now (tables .entry)) (now (text .exit)) ≡ written (says said (now (tables .entry))))
         × (r .length ≡ length (written (says said (now (tables .entry))) .text)) ⌝ }
 {

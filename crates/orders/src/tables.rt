@@ -5,23 +5,24 @@ use crate::run::BLOCKS;
 use crate::run::LONGEST;
 use crate::run::Run;
 use crate::run::Said;
+use crate::run::TOLD;
 use session::Session;
 use table::Verdict;
 ghost use mathlib.Core.Path.{_≡_};
 ghost use mathlib.Core.Bool.{cond};
-ghost use mathlib.Core.List.{_∷_};
+ghost use mathlib.Core.List.{[], _∷_};
 ghost use Prim.Native.Nat.{_*_, _<_, _≤_};
 ghost use lib.Dec.{eqb};
-ghost use lib.ListN.{length, take, replicate};
+ghost use lib.ListN.{length, take};
 ghost use Rattle.table.specs.Limits.{base};
 ghost use Rattle.opening.specs.Opening.{openOf, blocks};
 ghost use Rattle.session.specs.Calls.{freshOf};
 ghost use Rattle.orders.specs.Orders.{opened, openOrder, tableOrder};
 ghost use Rattle.orders.specs.Lines.{keeps};
-ghost use Rattle.orders.specs.mirror.Said.{Says, saidOver};
+ghost use Rattle.orders.specs.mirror.Said.{Says, mostShown, padded, saidOver};
 
 // Opens a table into the first words of `tables`.
-// No opening is refused for a room of 8,192 words: 8 roles of 1,024 words are the most that pass rules 1 and 2, which come before the room's rule 3.
+// No opening is refused for a room of BLOCKS words: ROLES roles of ROWS rows are the most that pass rules 1 and 2, which come before the room's rule 3.
 // So a longer room is lent at this length.
 fn lend(table: &[u16], roles: usize, room: usize, tables: &mut [u16]) -> Verdict
     requires { ⌜ length (now tables) ≡ 65536 ⌝ }
@@ -34,7 +35,7 @@ fn lend(table: &[u16], roles: usize, room: usize, tables: &mut [u16]) -> Verdict
 
 // How many words an opening wrote.
 fn written(number: u8, roles: usize, length: usize) -> usize
-    requires { ⌜ (number ≡ 0 → roles * length ≤ 8192) ⌝ }
+    requires { ⌜ (number ≡ 0 → roles * length ≤ mostShown base) ⌝ }
     ensures { λ r. ⌜ r ≡ cond (eqb number 0) (roles * length) 0 ⌝ }
 {
     if number == Verdict::ACCEPTED {
@@ -46,22 +47,15 @@ fn written(number: u8, roles: usize, length: usize) -> usize
 // The answer of an opening. Refused, it leaves no tables.
 fn opened(run: Run, verdict: Verdict, roles: usize, words: usize) -> Said
     requires { ⌜ verdict .place < 65536 ⌝ }
-    ensures { λ r. ⌜ r ≡ saidOver run 2 (verdict .number ∷ verdict .place ∷ (replicate 7 0)) words roles words ⌝ }
+    ensures { λ r. ⌜ r ≡ saidOver run 2 (padded (verdict .number ∷ verdict .place ∷ [])) words roles words ⌝ }
 {
+    let mut told = [0u32; TOLD];
+    told[0] = verdict.number as u32;
+    told[1] = verdict.place as u32;
     let state = run.state;
     Said {
         count: 2,
-        told: [
-            verdict.number as u32,
-            verdict.place as u32,
-            0,
-            0,
-            0,
-            0,
-            0,
-            0,
-            0,
-        ],
+        told: told,
         shown: words,
         roles: roles,
         words: words,
@@ -106,13 +100,15 @@ pub fn open(run: Run, numbers: &[u32], tables: &mut [u16]) -> Said
 
 // The answer to tables that are set.
 fn set_to(run: Run, roles: usize, words: &[u16]) -> Said
-    ensures { λ r. ⌜ r ≡ saidOver run 1 (freshOf base (now (words .entry)) roles .number ∷ replicate 8 0) 0 roles (length (now (words .entry))) ⌝ }
+    ensures { λ r. ⌜ r ≡ saidOver run 1 (padded (freshOf base (now (words .entry)) roles .number ∷ [])) 0 roles (length (now (words .entry))) ⌝ }
 {
     let fresh = Session::fresh(words, roles);
+    let mut told = [0u32; TOLD];
+    told[0] = fresh.number as u32;
     let state = run.state;
     Said {
         count: 1,
-        told: [fresh.number as u32, 0, 0, 0, 0, 0, 0, 0, 0],
+        told: told,
         shown: 0,
         roles: roles,
         words: words.len(),

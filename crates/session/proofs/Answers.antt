@@ -1,5 +1,5 @@
 -- The answers of fresh and awaited, where they are refused and where not. Assumes nothing.
-use Prim.Native.Nat.{ℕ, _<_}
+use Prim.Native.Nat.{ℕ, _≤_}
 use mathlib.Core.Bool.{Bool, true, false, cond, not}
 use mathlib.Core.List.{List}
 use mathlib.Core.Path.{_≡_, refl, sym, _∙_}
@@ -27,10 +27,10 @@ use Rattle.state.proofs.Sets.{set-count, set-least}
 
 -- how many rows were found: the blocks' where the tables are good, else none
 module _ (ts : List ℕ) (roles rows : ℕ) (found : rows ≡ goodRows base ts roles) where
-  pub rows-low : rows < 257
+  pub rows-low : rows ≤ 256
   rows-low = decide (tablesGood base ts roles) refl found
     where
-      decide : (t : Bool) → tablesGood base ts roles ≡ t → rows ≡ cond t (blockRows ts roles) 0 → rows < 257
+      decide : (t : Bool) → tablesGood base ts roles ≡ t → rows ≡ cond t (blockRows ts roles) 0 → rows ≤ 256
       decide true good e = let b = sized-bounds ts roles (blockRows ts roles) (good-sized ts roles good) in omega (arith, b .3, e)
       decide false good e = omega arith
 

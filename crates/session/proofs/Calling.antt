@@ -16,10 +16,9 @@ use Rattle.state.specs.declared.Turn.the-variants.{Refused, To}
 use Rattle.state.specs.mirror.Turns.{sendTurn, sendFound, receiveTurn, receiveFound}
 use Rattle.state.specs.mirror.Judged.{sendJudged, receiveJudged}
 use Rattle.session.specs.State.{listed, headOf, held, labelAt, stateGood, moved, pushed}
-use Rattle.session.specs.Calls.{answers, unless, sendArm, sendAt, sendOf, receiveArm, receiveAt, receiveOf}
+use Rattle.session.specs.Calls.{answers, received, unless, sendArm, sendAt, sendOf, receiveArm, receiveAt, receiveOf}
 use Rattle.session.specs.declared.Session.{Session}
 use Rattle.session.specs.declared.Answer.{Answer}
-use Rattle.session.specs.mirror.Received.{received}
 use Rattle.blocks.proofs.Mirrored.{arms-at, head-at}
 
 module _ (ts : List ℕ) (roles p q : ℕ) (s : Session) where

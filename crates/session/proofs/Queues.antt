@@ -9,11 +9,11 @@ use native.Mathlib.Numerals.{sub-one}
 use native.Mathlib.Omega.{arith}
 use borrow.Author.Tests.{lt-ltb}
 use Rattle.table.specs.Limits.{base}
-use Rattle.slots.specs.mirror.Slots.{oldest, cameForward}
-use Rattle.session.specs.State.{forward}
+use Rattle.slots.specs.mirror.Slots.{pushedAt, oldest, cameForward}
+use Rattle.session.specs.State.{forward, held, moved, pushed}
+use Rattle.session.specs.Calls.{received}
 use Rattle.session.specs.declared.Session.{Session}
 use Rattle.session.specs.declared.Answer.{Answer}
-use Rattle.session.specs.mirror.Received.{received}
 
 -- without the first: the rest come forward
 pub four-forward : (ws : List ℕ) (i : ℕ) → i + 4 ≤ length ws
@@ -33,16 +33,29 @@ four-forward ws i h =
       e3,
     )
 
-came-forward : (ws : List ℕ) (pair : ℕ) → pair < 64 → length ws ≡ 256 → cameForward ws pair ≡ sets ws (pair * 4 + 0) (forward (take 4 (drop (pair * 4 + 0) ws)))
+came-forward : (ws : List ℕ) (pair : ℕ) → pair < 64 → length ws ≡ 256 → cameForward base ws pair ≡ sets ws (pair * 4 + 0) (forward (take 4 (drop (pair * 4 + 0) ws)))
 came-forward ws pair l n = rw (lt-ltb pair 64 l, four-forward ws (pair * 4) (omega arith))
 
-first-held : (ws : List ℕ) (pair : ℕ) → pair < 64 → oldest ws pair ≡ getD ws (pair * 4 + 0) 0
+first-held : (ws : List ℕ) (pair : ℕ) → pair < 64 → oldest base ws pair ≡ getD ws (pair * 4 + 0) 0
 first-held ws pair l = rw (lt-ltb pair 64 l)
+
+-- what an accepted send leaves: labels and payloads are what there was with the message in the first free slot
+pub push-read : (s : Session) (p q l v h : ℕ) {free : ℕ} {labels payloads : List ℕ} → p < 8 → q < 8 → held base s p q < 4
+    → free ≡ held base s p q → labels ≡ pushedAt base (s .labels) (p * 8 + q) free l → payloads ≡ pushedAt base (s .payloads) (p * 8 + q) free v
+    → _≡_ {A = Session} (record {
+      heads = set (s .heads) p h;
+      counts = set (s .counts) (p * 8 + q) (held base s p q + 1);
+      labels = labels;
+      payloads = payloads;
+    }) (moved (pushed base s p q l v) p h)
+push-read s p q l v h lp lq room is fl fp =
+    let low : p * 8 + q < 64 = omega arith in
+    rw (fl, fp, is, lt-ltb (p * 8 + q) 64 low, lt-ltb (held base s p q) 4 room)
 
 -- what an accepted receive leaves: l and v were handed out of the queue's slots, and labels and payloads are what is left
 pub taken-read : (s : Session) (p q h : ℕ) {l v : ℕ} {labels payloads : List ℕ} → p < 8 → q < 8 → length (s .labels) ≡ 256 → length (s .payloads) ≡ 256
-    → l ≡ oldest (s .labels) (p * 8 + q) → v ≡ oldest (s .payloads) (p * 8 + q)
-    → labels ≡ cameForward (s .labels) (p * 8 + q) → payloads ≡ cameForward (s .payloads) (p * 8 + q)
+    → l ≡ oldest base (s .labels) (p * 8 + q) → v ≡ oldest base (s .payloads) (p * 8 + q)
+    → labels ≡ cameForward base (s .labels) (p * 8 + q) → payloads ≡ cameForward base (s .payloads) (p * 8 + q)
     → _≡_ {A = Answer} (record {
       number = 0;
       label = l;

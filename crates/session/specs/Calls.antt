@@ -20,6 +20,11 @@ use Rattle.session.specs.declared.Answer.{Answer}
 abbrev pub answers : ℕ → Session → Answer
 answers n s = record { number = n; label = 0; payload = 0; state = s }
 
+-- an accepted receive by q from p: the oldest message, and q moves to row h
+abbrev pub received : Limits → Session → ℕ → ℕ → ℕ → Answer
+received lim s p q h =
+    record { number = ACCEPTED; label = labelAt lim s p q 0; payload = payloadAt lim s p q 0; state = moved (taken lim s p q) q h }
+
 -- refused with that number where the test holds; else the rest
 abbrev pub unless : ℕ → Bool → Session → Answer → Answer
 unless n broken s rest = cond broken (answers n s) rest
@@ -42,17 +47,12 @@ unfoldable pub freshOf : Limits → List ℕ → ℕ → Answer
 unfolding tablesGood firstHeads
 freshOf lim ts roles =
     unless TABLES (not (tablesGood lim ts roles)) (nothing lim) (
-    record {
-      number = ACCEPTED;
-      label = 0;
-      payload = 0;
-      state = record {
-        heads = firstHeads ts roles (lim .roles);
-        counts = nothing lim .counts;
-        labels = nothing lim .labels;
-        payloads = nothing lim .payloads;
-      };
-    })
+    answers ACCEPTED (record {
+      heads = firstHeads ts roles (lim .roles);
+      counts = nothing lim .counts;
+      labels = nothing lim .labels;
+      payloads = nothing lim .payloads;
+    }))
 
 -- rules 16 and 17: p sends l to q with the payload v; `found` is the continuation of the head's arm with the label l
 unfoldable pub sendArm : Limits → List ℕ → ℕ → ℕ → ℕ → ℕ → ℕ → Session → Option ℕ → Answer
@@ -82,13 +82,7 @@ sendOf lim ts roles p q l v s =
 -- rule 19: q receives from p; `found` is the continuation of the head's arm with the first held label
 unfoldable pub receiveArm : Limits → List ℕ → ℕ → ℕ → ℕ → Session → Option ℕ → Answer
 receiveArm lim ts roles p q s none = answers STRAY s
-receiveArm lim ts roles p q s (some c) =
-    record {
-      number = ACCEPTED;
-      label = labelAt lim s p q 0;
-      payload = payloadAt lim s p q 0;
-      state = moved (taken lim s p q) q (head ts roles q c);
-    }
+receiveArm lim ts roles p q s (some c) = received lim s p q (head ts roles q c)
 
 -- rule 15: the head of q is a receive from p; and rule 18
 unfoldable pub receiveAt : Limits → List ℕ → ℕ → ℕ → ℕ → Session → PartRow → Answer

@@ -11,25 +11,25 @@ ghost use Prim.Native.Nat.{_<_};
 ghost use Rattle.table.specs.Limits.{base};
 ghost use Rattle.session.specs.State.{held, moved, pushed};
 ghost use Rattle.session.specs.Promises.{Freshens, Sends, Receives, Awaits};
-ghost use Rattle.session.specs.mirror.Received.{received};
+ghost use Rattle.session.specs.Calls.{answers, received};
 
 // Each role's head row, and for each ordered pair of roles (sender x ROLES + receiver) a queue of DEPTH slots, the oldest message in
 // the first.
 pub struct Session {
-    pub heads: [u16; 8],
-    pub counts: [u8; 64],
-    pub labels: [u8; 256],
-    pub payloads: [u32; 256],
+    pub heads: [u16; Session::ROLES],
+    pub counts: [u8; Session::PAIRS],
+    pub labels: [u8; Session::SLOTS],
+    pub payloads: [u32; Session::SLOTS],
 }
 
 impl Session {
     pub const ROLES: usize = Table::ROLES;
 
-    pub const PAIRS: usize = 64;
+    pub const PAIRS: usize = slots::PAIRS;
 
     pub const DEPTH: usize = slots::DEPTH;
 
-    pub const SLOTS: usize = 256;
+    pub const SLOTS: usize = slots::SLOTS;
 
     // Every role at the head of row 0, the queues empty.
     pub fn fresh(tables: &[u16], roles: usize) -> Answer
@@ -44,16 +44,11 @@ impl Session {
         };
         let state = Session {
             heads: heads::first_heads(tables, roles, rows),
-            counts: [0u8; 64],
-            labels: [0u8; 256],
-            payloads: [0u32; 256],
+            counts: [0u8; Session::PAIRS],
+            labels: [0u8; Session::SLOTS],
+            payloads: [0u32; Session::SLOTS],
         };
-        Answer {
-            number: number,
-            label: 0,
-            payload: 0,
-            state: state,
-        }
+        Answer::of(number, state)
     }
 
     // The sender sends the label with the payload to the receiver, and moves to the head of that arm's continuation.
@@ -80,23 +75,16 @@ impl Session {
             &self.payloads,
         );
         match turn {
-            Turn::Refused(number) => Answer {
-                number: number,
-                label: 0,
-                payload: 0,
-                state: self,
-            },
-            Turn::To(head) => Answer {
-                number: Answer::ACCEPTED,
-                label: 0,
-                payload: 0,
-                state: self.put(sender, receiver, label, payload, head),
-            },
+            Turn::Refused(number) => Answer::of(number, self),
+            Turn::To(head) => Answer::of(
+                Answer::ACCEPTED,
+                self.push(sender, receiver, label, payload, head),
+            ),
         }
     }
 
     // The message behind those that the queue holds, and its sender on that row.
-    fn put(
+    fn push(
         mut self,
         sender: usize,
         receiver: usize,
@@ -104,14 +92,14 @@ impl Session {
         payload: u32,
         head: u16,
     ) -> Session
-        requires { ⌜ (sender < 8) × (receiver < 8) × (label < 64) × (held base self sender receiver < 4) ⌝ }
+        requires { ⌜ (sender < base .roles) × (receiver < base .roles) × (label < base .labels) × (held base self sender receiver < base .depth) ⌝ }
         ensures { λ r. ⌜ r ≡ moved (pushed base self sender receiver label payload) sender head ⌝ }
     {
         let pair = sender * Session::ROLES + receiver;
         let count = self.counts[pair];
-        let free = pair * Session::DEPTH + state::wide(count);
-        self.labels[free] = label as u8;
-        self.payloads[free] = payload;
+        let free = state::wide(count);
+        slots::push_label(&mut self.labels, pair, free, label as u8);
+        slots::push_payload(&mut self.payloads, pair, free, payload);
         self.counts[pair] = count + 1;
         self.heads[sender] = head;
         self
@@ -132,19 +120,14 @@ impl Session {
             &self.payloads,
         );
         match turn {
-            Turn::Refused(number) => Answer {
-                number: number,
-                label: 0,
-                payload: 0,
-                state: self,
-            },
+            Turn::Refused(number) => Answer::of(number, self),
             Turn::To(head) => self.take(sender, receiver, head),
         }
     }
 
     // The oldest message out of the queue, and its receiver on that row.
     fn take(mut self, sender: usize, receiver: usize, head: u16) -> Answer
-        requires { ⌜ (sender < 8) × (receiver < 8) × (0 < held base self sender receiver) ⌝ }
+        requires { ⌜ (sender < base .roles) × (receiver < base .roles) × (0 < held base self sender receiver) ⌝ }
         ensures { λ r. ⌜ r ≡ received base self sender receiver head ⌝ }
     {
         let pair = sender * Session::ROLES + receiver;
@@ -207,20 +190,20 @@ impl Answer {
 
     pub const STATE: u8 = Turn::STATE;
 
-    pub const PARTY: u8 = Turn::PARTY;
-
-    pub const TURN: u8 = Turn::TURN;
-
-    pub const LABEL: u8 = Turn::LABEL;
-
-    pub const FULL: u8 = Turn::FULL;
-
-    pub const EMPTY: u8 = Turn::EMPTY;
-
-    pub const STRAY: u8 = Turn::STRAY;
+    // A number and a state, and no message.
+    pub fn of(number: u8, state: Session) -> Answer
+        ensures { λ r. ⌜ r ≡ answers number state ⌝ }
+    {
+        Answer {
+            number: number,
+            label: 0,
+            payload: 0,
+            state: state,
+        }
+    }
 }
 
 impl Awaiting {
     // No role is the lowest.
-    pub const NOBODY: u32 = 8;
+    pub const NOBODY: u32 = Session::ROLES as u32;
 }

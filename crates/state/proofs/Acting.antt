@@ -43,7 +43,7 @@ module _ (ts : List ℕ) (roles rows r start : ℕ) (s : State) {j : ℕ} {w : R
   acts-read t e = e ∙ rw (began, rows-are, ← head-read) (acts-at ts roles r s (partRow ts roles r (headOf s r)))
 
   -- over good tables and a good state the peer of a head is a role
-  pub low-peer : tablesGood base ts roles ≡ true → stateGood base ts roles s ≡ true → r < roles → (r < 8) × LowPeer w
+  pub low-peer : tablesGood base ts roles ≡ true → stateGood base ts roles s ≡ true → r < roles → (r < 8) × LowPeer base w
   low-peer good standing l =
       let b = sized-bounds ts roles (blockRows ts roles) (good-sized ts roles good) in
       let low : r < 8 = omega (arith, b .1) in

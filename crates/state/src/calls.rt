@@ -1,22 +1,28 @@
-// The tests of the calls, from rule 12 on, over the lent arrays of a state.
+// The tests of the calls, from rule 12 on, over the lent columns of a state.
 use crate::Turn;
 use crate::formed;
 use crate::turns;
 use blocks::rows;
 use blocks::tables;
+use slots::Counts;
 use slots::DEPTH;
+use slots::Heads;
+use slots::Labels;
+use slots::Payloads;
 use table::Table;
 ghost use mathlib.Core.Path.{_≡_};
 ghost use mathlib.Core.Bool.{true};
-ghost use Prim.Native.Nat.{_+_, _*_};
+ghost use mathlib.Core.List.{[]};
+ghost use Prim.Native.Nat.{_<_, _≤_};
+ghost use lib.ListN.{getD};
 ghost use Rattle.words.specs.Below.{setOf};
 ghost use Rattle.table.specs.Limits.{base};
 ghost use Rattle.blocks.specs.Block.{blockRows};
 ghost use Rattle.blocks.specs.Tables.{tablesGood};
 ghost use Rattle.state.specs.State.{stateGood};
 ghost use Rattle.state.specs.Awaited.{isAwaited};
-ghost use Rattle.state.specs.mirror.State.{stateOf};
-ghost use Rattle.state.specs.mirror.Judged.{groundOf, sendJudged, receiveJudged, waitingOf};
+ghost use Rattle.state.specs.mirror.State.{stateOf, queues};
+ghost use Rattle.state.specs.mirror.Judged.{groundOf, partyOf, sendFrom, sendJudged, receiveFrom, receiveJudged, waitingOf};
 
 // Rules 12 and 13: the number of the first that is broken, or 0. And how many rows each block has, 0 if the tables are not good.
 struct Ground {
@@ -24,13 +30,13 @@ struct Ground {
     rows: usize,
 }
 
-fn standing<'a>(
+fn ground_of<'a>(
     tables: &[u16],
     roles: usize,
-    heads: &'a [u16; 8],
-    counts: &'a [u8; 64],
-    labels: &'a [u8; 256],
-    payloads: &'a [u32; 256],
+    heads: &'a Heads,
+    counts: &'a Counts,
+    labels: &'a Labels,
+    payloads: &'a Payloads,
 ) -> Ground
     ensures { λ r. ⌜ r ≡ groundOf base (now (tables .entry)) roles (stateOf (now (heads .entry)) (now (counts .entry)) (now (labels .entry)) (now (payloads .entry))) ⌝ }
 {
@@ -53,6 +59,39 @@ fn standing<'a>(
     }
 }
 
+// Rule 14 behind those: the number of the first that is broken.
+fn party(number: u8, roles: usize, sender: usize, receiver: usize) -> u8
+    ensures { λ r. ⌜ r ≡ partyOf number roles sender receiver ⌝ }
+{
+    if number != Turn::ACCEPTED {
+        return number;
+    }
+    if formed::are_pair(roles, sender, receiver) {
+        Turn::ACCEPTED
+    } else {
+        Turn::PARTY
+    }
+}
+
+// Rules 15 to 17, over good tables and a good state.
+fn send_from<'a>(
+    tables: &[u16],
+    rows: usize,
+    sender: usize,
+    receiver: usize,
+    label: usize,
+    heads: &'a Heads,
+    counts: &'a Counts,
+) -> Turn
+    requires { ⌜ (sender < base .roles) × (receiver < base .roles) × (rows ≤ base .rows) ⌝ }
+    ensures { λ r. ⌜ r ≡ sendFrom base (now (tables .entry)) rows sender receiver label (queues (now (counts .entry)) [] []) (getD (now (heads .entry)) sender 0) ⌝ }
+{
+    let start = sender * rows;
+    let part = rows::row_at(tables, start, words::wide(heads[sender]));
+    let count = counts[sender * Table::ROLES + receiver];
+    turns::send_turn(tables, start, rows, part, receiver, label, count)
+}
+
 // Rules 12 to 17.
 pub fn judge_send<'a>(
     tables: &[u16],
@@ -60,24 +99,40 @@ pub fn judge_send<'a>(
     sender: usize,
     receiver: usize,
     label: usize,
-    heads: &'a [u16; 8],
-    counts: &'a [u8; 64],
-    labels: &'a [u8; 256],
-    payloads: &'a [u32; 256],
+    heads: &'a Heads,
+    counts: &'a Counts,
+    labels: &'a Labels,
+    payloads: &'a Payloads,
 ) -> Turn
     ensures { λ r. ⌜ r ≡ sendJudged base (now (tables .entry)) roles sender receiver label (stateOf (now (heads .entry)) (now (counts .entry)) (now (labels .entry)) (now (payloads .entry))) ⌝ }
 {
-    let ground = standing(tables, roles, heads, counts, labels, payloads);
-    if ground.number != Turn::ACCEPTED {
-        return Turn::Refused(ground.number);
+    let ground = ground_of(tables, roles, heads, counts, labels, payloads);
+    let number = party(ground.number, roles, sender, receiver);
+    if number != Turn::ACCEPTED {
+        return Turn::Refused(number);
     }
-    if !formed::are_pair(roles, sender, receiver) {
-        return Turn::Refused(Turn::PARTY);
-    }
-    let start = sender * ground.rows;
-    let part = rows::row_at(tables, start, words::wide(heads[sender]));
-    let count = counts[sender * Table::ROLES + receiver];
-    turns::send_turn(tables, start, ground.rows, part, receiver, label, count)
+    send_from(tables, ground.rows, sender, receiver, label, heads, counts)
+}
+
+// Rules 15, 18 and 19, over good tables and a good state.
+fn receive_from<'a>(
+    tables: &[u16],
+    rows: usize,
+    sender: usize,
+    receiver: usize,
+    heads: &'a Heads,
+    counts: &'a Counts,
+    labels: &'a Labels,
+) -> Turn
+    requires { ⌜ (sender < base .roles) × (receiver < base .roles) × (rows ≤ base .rows) ⌝ }
+    ensures { λ r. ⌜ r ≡ receiveFrom base (now (tables .entry)) rows sender receiver (queues (now (counts .entry)) (now (labels .entry)) []) (getD (now (heads .entry)) receiver 0) ⌝ }
+{
+    let start = receiver * rows;
+    let part = rows::row_at(tables, start, words::wide(heads[receiver]));
+    let pair = sender * Table::ROLES + receiver;
+    let count = counts[pair];
+    let label = labels[pair * DEPTH];
+    turns::receive_turn(tables, start, rows, part, sender, count, label)
 }
 
 // Rules 12 to 15, 18 and 19.
@@ -86,33 +141,19 @@ pub fn judge_receive<'a>(
     roles: usize,
     sender: usize,
     receiver: usize,
-    heads: &'a [u16; 8],
-    counts: &'a [u8; 64],
-    labels: &'a [u8; 256],
-    payloads: &'a [u32; 256],
+    heads: &'a Heads,
+    counts: &'a Counts,
+    labels: &'a Labels,
+    payloads: &'a Payloads,
 ) -> Turn
     ensures { λ r. ⌜ r ≡ receiveJudged base (now (tables .entry)) roles sender receiver (stateOf (now (heads .entry)) (now (counts .entry)) (now (labels .entry)) (now (payloads .entry))) ⌝ }
 {
-    let ground = standing(tables, roles, heads, counts, labels, payloads);
-    if ground.number != Turn::ACCEPTED {
-        return Turn::Refused(ground.number);
+    let ground = ground_of(tables, roles, heads, counts, labels, payloads);
+    let number = party(ground.number, roles, sender, receiver);
+    if number != Turn::ACCEPTED {
+        return Turn::Refused(number);
     }
-    if !formed::are_pair(roles, sender, receiver) {
-        return Turn::Refused(Turn::PARTY);
-    }
-    let start = receiver * ground.rows;
-    let part = rows::row_at(tables, start, words::wide(heads[receiver]));
-    let pair = sender * Table::ROLES + receiver;
-    let label = labels[pair * DEPTH];
-    turns::receive_turn(
-        tables,
-        start,
-        ground.rows,
-        part,
-        sender,
-        counts[pair],
-        label,
-    )
+    receive_from(tables, ground.rows, sender, receiver, heads, counts, labels)
 }
 
 // The roles that have a call which would be accepted, over good tables and a good state.
@@ -120,10 +161,10 @@ fn awaited_set<'a>(
     tables: &[u16],
     roles: usize,
     rows: usize,
-    heads: &'a [u16; 8],
-    counts: &'a [u8; 64],
-    labels: &'a [u8; 256],
-    payloads: &'a [u32; 256],
+    heads: &'a Heads,
+    counts: &'a Counts,
+    labels: &'a Labels,
+    payloads: &'a Payloads,
 ) -> u8
     requires { ⌜ (rows ≡ blockRows (now tables) roles) × (tablesGood base (now tables) roles ≡ true) × (stateGood base (now tables) roles (stateOf (now heads) (now counts) (now labels) (now payloads)) ≡ true) ⌝ }
     ensures { λ r. ⌜ r ≡ setOf (isAwaited base (now (tables .entry)) roles (stateOf (now (heads .entry)) (now (counts .entry)) (now (labels .entry)) (now (payloads .entry)))) roles ⌝ }
@@ -151,14 +192,14 @@ pub struct Waiting {
 pub fn awaited_roles<'a>(
     tables: &[u16],
     roles: usize,
-    heads: &'a [u16; 8],
-    counts: &'a [u8; 64],
-    labels: &'a [u8; 256],
-    payloads: &'a [u32; 256],
+    heads: &'a Heads,
+    counts: &'a Counts,
+    labels: &'a Labels,
+    payloads: &'a Payloads,
 ) -> Waiting
     ensures { λ r. ⌜ r ≡ waitingOf base (now (tables .entry)) roles (stateOf (now (heads .entry)) (now (counts .entry)) (now (labels .entry)) (now (payloads .entry))) ⌝ }
 {
-    let ground = standing(tables, roles, heads, counts, labels, payloads);
+    let ground = ground_of(tables, roles, heads, counts, labels, payloads);
     if ground.number != Turn::ACCEPTED {
         return Waiting {
             number: ground.number,

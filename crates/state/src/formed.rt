@@ -1,7 +1,11 @@
-// Rule 13: a state that is well formed. The state's arrays are lent, since the state is large.
+// Rule 13: a state that is well formed. The state's columns are lent, since the state is large.
 use crate::wide;
 use blocks::rows;
+use slots::Counts;
 use slots::DEPTH;
+use slots::Heads;
+use slots::Labels;
+use slots::Payloads;
 use table::Table;
 ghost use mathlib.Core.Path.{_≡_};
 ghost use Prim.Native.Nat.{_+_, _*_, _<_, _≤_};
@@ -9,6 +13,7 @@ ghost use lib.ListN.{getD};
 ghost use Rattle.words.specs.Below.{every};
 ghost use Rattle.table.specs.Limits.{base};
 ghost use Rattle.blocks.specs.Block.{blockRows};
+ghost use Rattle.slots.specs.mirror.Slots.{pairs};
 ghost use Rattle.state.specs.State.{arePair, queueGood, stateGood};
 ghost use Rattle.state.specs.mirror.State.{headGoodAt, slotHolds, queues, stateOf};
 
@@ -39,9 +44,9 @@ fn head_good(
     }
 }
 
-fn heads_good(tables: &[u16], roles: usize, rows: usize, heads: &[u16; 8]) -> bool
-    requires { ⌜ rows ≤ 256 ⌝ }
-    ensures { λ r. ⌜ r ≡ every (λ p. headGoodAt (now (tables .entry)) roles rows (p * rows) p (getD (now (heads .entry)) p 0)) 8 ⌝ }
+fn heads_good(tables: &[u16], roles: usize, rows: usize, heads: &Heads) -> bool
+    requires { ⌜ rows ≤ base .rows ⌝ }
+    ensures { λ r. ⌜ r ≡ every (λ p. headGoodAt (now (tables .entry)) roles rows (p * rows) p (getD (now (heads .entry)) p 0)) (base .roles) ⌝ }
 {
     let mut role = 0;
     let mut start = 0;
@@ -60,10 +65,10 @@ fn slot_good<'a>(
     count: usize,
     first: usize,
     slot: usize,
-    labels: &'a [u8; 256],
-    payloads: &'a [u32; 256],
+    labels: &'a Labels,
+    payloads: &'a Payloads,
 ) -> bool
-    requires { ⌜ first + slot < 256 ⌝ }
+    requires { ⌜ first + slot < pairs base * base .depth ⌝ }
     ensures { λ r. ⌜ r ≡ slotHolds base count slot (getD (now (labels .entry)) (first + slot) 0) (getD (now (payloads .entry)) (first + slot) 0) ⌝ }
 {
     let at = first + slot;
@@ -78,11 +83,11 @@ fn queue_good<'a>(
     roles: usize,
     sender: usize,
     receiver: usize,
-    counts: &'a [u8; 64],
-    labels: &'a [u8; 256],
-    payloads: &'a [u32; 256],
+    counts: &'a Counts,
+    labels: &'a Labels,
+    payloads: &'a Payloads,
 ) -> bool
-    requires { ⌜ (sender < 8) × (receiver < 8) ⌝ }
+    requires { ⌜ (sender < base .roles) × (receiver < base .roles) ⌝ }
     ensures { λ r. ⌜ r ≡ queueGood base roles (queues (now (counts .entry)) (now (labels .entry)) (now (payloads .entry))) sender receiver ⌝ }
 {
     let pair = sender * Table::ROLES + receiver;
@@ -99,12 +104,12 @@ fn queue_good<'a>(
 fn sender_good<'a>(
     roles: usize,
     sender: usize,
-    counts: &'a [u8; 64],
-    labels: &'a [u8; 256],
-    payloads: &'a [u32; 256],
+    counts: &'a Counts,
+    labels: &'a Labels,
+    payloads: &'a Payloads,
 ) -> bool
-    requires { ⌜ sender < 8 ⌝ }
-    ensures { λ r. ⌜ r ≡ every (λ q. queueGood base roles (queues (now (counts .entry)) (now (labels .entry)) (now (payloads .entry))) sender q) 8 ⌝ }
+    requires { ⌜ sender < base .roles ⌝ }
+    ensures { λ r. ⌜ r ≡ every (λ q. queueGood base roles (queues (now (counts .entry)) (now (labels .entry)) (now (payloads .entry))) sender q) (base .roles) ⌝ }
 {
     let mut receiver = 0;
     while receiver < Table::ROLES {
@@ -118,11 +123,11 @@ fn sender_good<'a>(
 
 fn queues_good<'a>(
     roles: usize,
-    counts: &'a [u8; 64],
-    labels: &'a [u8; 256],
-    payloads: &'a [u32; 256],
+    counts: &'a Counts,
+    labels: &'a Labels,
+    payloads: &'a Payloads,
 ) -> bool
-    ensures { λ r. ⌜ r ≡ every (λ p. every (λ q. queueGood base roles (queues (now (counts .entry)) (now (labels .entry)) (now (payloads .entry))) p q) 8) 8 ⌝ }
+    ensures { λ r. ⌜ r ≡ every (λ p. every (λ q. queueGood base roles (queues (now (counts .entry)) (now (labels .entry)) (now (payloads .entry))) p q) (base .roles)) (base .roles) ⌝ }
 {
     let mut sender = 0;
     while sender < Table::ROLES {
@@ -139,12 +144,12 @@ pub fn state_good<'a>(
     tables: &[u16],
     roles: usize,
     rows: usize,
-    heads: &'a [u16; 8],
-    counts: &'a [u8; 64],
-    labels: &'a [u8; 256],
-    payloads: &'a [u32; 256],
+    heads: &'a Heads,
+    counts: &'a Counts,
+    labels: &'a Labels,
+    payloads: &'a Payloads,
 ) -> bool
-    requires { ⌜ (rows ≡ blockRows (now tables) roles) × (rows ≤ 256) ⌝ }
+    requires { ⌜ (rows ≡ blockRows (now tables) roles) × (rows ≤ base .rows) ⌝ }
     ensures { λ r. ⌜ r ≡ stateGood base (now (tables .entry)) roles (stateOf (now (heads .entry)) (now (counts .entry)) (now (labels .entry)) (now (payloads .entry))) ⌝ }
 {
     let standing = heads_good(tables, roles, rows, heads);

@@ -6,8 +6,8 @@ use Rattle.embed.proofs.Handing.{handed}
 use Rattle.embed.proofs.gaugetwinkle_fresh.Statement.{statement}
 use Rattle.embed.proofs.gaugetwinkle_fresh.Tie as tie
 
-taken-requires : tie.Need-taken-requires
-taken-requires c κs = search needs
+read-in-requires : tie.Need-read-in-requires
+read-in-requires c κs = search needs
 
 made-requires : tie.Need-made-requires
 made-requires c κs = search needs
@@ -34,14 +34,14 @@ returns c =
     let given = step .before in
     let a = given .before .before .before .before .before .before .before .before .before .before .args in
     handed (a .tables .now) (a .roles) (a .heads .now) (a .counts .now) (a .labels .now) (a .payloads .now)
-    (λ s. freshOf base (a .tables .now) (a .roles)) _ (given .taken .ensures) _ (step .made .ensures) _ _ _ _
+    (λ s. freshOf base (a .tables .now) (a .roles)) _ (given .read-in .ensures) _ (step .made .ensures) _ _ _ _
     (put .put-back .ensures .0) (put .put-back .ensures .1) (put .put-back .ensures .2) (put .put-back .ensures .3)
 
 pub gaugetwinkle-fresh-spec : {M : Type 1} → statement M
 gaugetwinkle-fresh-spec =
     tie.close
     (tie.spec
-    taken-requires
+    read-in-requires
     made-requires
     put-back-requires
     same-length

@@ -6,8 +6,8 @@ use Rattle.embed.proofs.Handing.{handed, said}
 use Rattle.embed.proofs.gaugetwinkle_receive.Statement.{statement}
 use Rattle.embed.proofs.gaugetwinkle_receive.Tie as tie
 
-taken-requires : tie.Need-taken-requires
-taken-requires c κs = search needs
+read-in-requires : tie.Need-read-in-requires
+read-in-requires c κs = search needs
 
 received-requires : tie.Need-received-requires
 received-requires c κs = search needs
@@ -35,11 +35,11 @@ returns c =
     let a = given .before .before .before .before .before .before .before .before .before .before .args in
     let call = receiveOf base (a .tables .now) (a .roles) (a .sender) (a .receiver) in
     let answer = said (a .tables .now) (a .roles) (a .heads .now) (a .counts .now) (a .labels .now) (a .payloads .now)
-    call _ (given .taken .ensures) _ (step .received .ensures) in
+    call _ (given .read-in .ensures) _ (step .received .ensures) in
     record {
       handed =
           handed (a .tables .now) (a .roles) (a .heads .now) (a .counts .now) (a .labels .now) (a .payloads .now)
-          call _ (given .taken .ensures) _ (step .received .ensures) _ _ _ _
+          call _ (given .read-in .ensures) _ (step .received .ensures) _ _ _ _
           (put .put-back .ensures .0) (put .put-back .ensures .1) (put .put-back .ensures .2) (put .put-back .ensures .3);
       label-is = answer .1;
       payload-is = answer .2;
@@ -49,7 +49,7 @@ pub gaugetwinkle-receive-spec : {M : Type 1} → statement M
 gaugetwinkle-receive-spec =
     tie.close
     (tie.spec
-    taken-requires
+    read-in-requires
     received-requires
     put-back-requires
     same-length

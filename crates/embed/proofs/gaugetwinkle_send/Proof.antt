@@ -6,8 +6,8 @@ use Rattle.embed.proofs.Handing.{handed}
 use Rattle.embed.proofs.gaugetwinkle_send.Statement.{statement}
 use Rattle.embed.proofs.gaugetwinkle_send.Tie as tie
 
-taken-requires : tie.Need-taken-requires
-taken-requires c κs = search needs
+read-in-requires : tie.Need-read-in-requires
+read-in-requires c κs = search needs
 
 sent-requires : tie.Need-sent-requires
 sent-requires c κs = search needs
@@ -35,14 +35,14 @@ returns c =
     let a = given .before .before .before .before .before .before .before .before .before .before .args in
     let call = sendOf base (a .tables .now) (a .roles) (a .sender) (a .receiver) (a .label) (a .payload) in
     handed (a .tables .now) (a .roles) (a .heads .now) (a .counts .now) (a .labels .now) (a .payloads .now)
-    call _ (given .taken .ensures) _ (step .sent .ensures) _ _ _ _
+    call _ (given .read-in .ensures) _ (step .sent .ensures) _ _ _ _
     (put .put-back .ensures .0) (put .put-back .ensures .1) (put .put-back .ensures .2) (put .put-back .ensures .3)
 
 pub gaugetwinkle-send-spec : {M : Type 1} → statement M
 gaugetwinkle-send-spec =
     tie.close
     (tie.spec
-    taken-requires
+    read-in-requires
     sent-requires
     put-back-requires
     same-length

@@ -1,4 +1,4 @@
--- A call over a state that was taken in from lent slices, as the code makes it. Assumes nothing.
+-- A call over a state that was read in from lent slices, as the code makes it. Assumes nothing.
 use Prim.Native.Nat.{ℕ}
 use mathlib.Core.Bool.{cond}
 use mathlib.Core.List.{List}
@@ -9,6 +9,6 @@ use Rattle.session.specs.declared.Answer.{Answer}
 use Rattle.lent.specs.declared.Given.{Given}
 use Rattle.embed.specs.Lent.{wrongNumber}
 
--- a refused call hands back what was taken in
+-- a refused call hands back what was read in
 abbrev pub givenCall : Limits → List ℕ → ℕ → (Session → Answer) → Given → Answer
 givenCall lim ts roles call g = cond (g .whole) (call (g .state)) (answers (wrongNumber lim ts roles) (g .state))

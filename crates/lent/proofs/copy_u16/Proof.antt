@@ -1,15 +1,15 @@
 -- `lent::copy_u16` meets its contract. Assumes nothing.
-use Prim.Native.Nat.{_≤_, _-_}
-use mathlib.Core.Path.{_≡_, refl, _∙_}
+use Prim.Native.Nat.{_-_}
+use mathlib.Core.Path.{refl}
 use native.Mathlib.Omega.{arith}
 use borrow.Author.Needs.{needs}
-use lib.ListN.{length, length-set}
-use Rattle.lent.proofs.Copied.{copied, copied-more, copied-all, stays}
+use lib.ListN.{length}
+use Rattle.lent.proofs.Copied.{Copying, copying-more, copying-ends, stays}
 use Rattle.lent.proofs.copy_u16.Statement.{statement}
 use Rattle.lent.proofs.copy_u16.Tie as tie
 
 abbrev Inv-loop : tie.InvT-loop
-Inv-loop from to₀ i₀ to i = (i ≤ length from) × (length to ≡ length to₀) × (to ≡ copied from to₀ i)
+Inv-loop from to₀ i₀ to i = Copying from to₀ to i
 
 abbrev μ-loop : tie.MeasureT-loop
 μ-loop from to₀ i₀ to i = length from - i
@@ -39,19 +39,13 @@ loop-less : tie.Need-loop-less Inv-loop μ-loop
 loop-less c = omega arith
 
 loop-again : tie.Need-loop-again Inv-loop μ-loop
-loop-again c =
-    let was = c .before .before .loop in (
-      omega arith,
-      simp length-set (was .inv .1),
-      rw (was .inv .2) (copied-more _ _ _ (c .before .loop-test .taken) (c .before .before .before .if1 .left)),
-    )
+loop-again c = copying-more _ _ _ _ (c .before .before .before .if1 .left) (c .before .before .loop .inv) (c .before .loop-test .taken)
 
 same-length : tie.Need-same-length Inv-loop μ-loop
 same-length c = c .before .loop .inv .1
 
 returns-2 : tie.Need-returns-2 Inv-loop μ-loop
-returns-2 c =
-    c .before .loop .inv .2 ∙ copied-all _ _ _ (c .loop-test .left) (c .before .loop .inv .0) (c .before .before .if1 .left)
+returns-2 c = copying-ends _ _ _ _ (c .before .before .if1 .left) (c .before .loop .inv) (c .loop-test .left)
 
 pub copy-u16-spec : {M : Type 1} → statement M
 copy-u16-spec =

@@ -1,6 +1,5 @@
 -- `slots::put_payloads` meets its contract. Assumes nothing.
 use Prim.Native.Nat.{_*_}
-use mathlib.Core.Path.{refl}
 use lib.ListN.{getD}
 use Rattle.slots.proofs.Forward.{four-sets}
 use borrow.Author.Needs.{needs}
@@ -43,6 +42,9 @@ mul-payloads-3 c = search needs
 element-write-payloads-3 : tie.Need-element-write-payloads-3
 element-write-payloads-3 c = search needs
 
+array-read-payloads-4 : tie.Need-array-read-payloads-4
+array-read-payloads-4 c = search needs
+
 add-payloads-3 : tie.Need-add-payloads-3
 add-payloads-3 c = search needs
 
@@ -52,11 +54,8 @@ mul-payloads-4 c = search needs
 element-write-payloads-4 : tie.Need-element-write-payloads-4
 element-write-payloads-4 c = search needs
 
-array-read-result : tie.Need-array-read-result
-array-read-result c = search needs
-
 returns : tie.Need-returns
-returns c = (refl, four-sets (c .args .payloads .now) (c .args .pair * 4) (getD (c .args .t3) 1 0) (getD (c .args .t3) 2 0) (getD (c .args .t3) 3 0) 0)
+returns c = let held = c .args .t3 in four-sets (c .args .payloads .now) (c .args .pair * 4) (getD held 0 0) (getD held 1 0) (getD held 2 0) (getD held 3 0)
 
 pub put-payloads-spec : {M : Type 1} → statement M
 put-payloads-spec =
@@ -74,8 +73,8 @@ put-payloads-spec =
     add-payloads-2
     mul-payloads-3
     element-write-payloads-3
+    array-read-payloads-4
     add-payloads-3
     mul-payloads-4
     element-write-payloads-4
-    array-read-result
     returns)

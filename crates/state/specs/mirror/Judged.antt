@@ -2,11 +2,13 @@
 use Prim.Native.Nat.{ℕ, _*_}
 use mathlib.Core.Bool.{cond, not}
 use mathlib.Core.List.{List}
+use lib.Dec.{eqb}
 use Rattle.words.specs.Below.{setOf}
 use Rattle.table.specs.Limits.{Limits}
 use Rattle.table.specs.Numbers.{ACCEPTED}
-use Rattle.blocks.specs.Block.{partRow, blockRows}
+use Rattle.blocks.specs.Block.{blockRows}
 use Rattle.blocks.specs.Tables.{tablesGood}
+use Rattle.blocks.specs.mirror.Rows.{rowAt}
 use Rattle.blocks.specs.mirror.Tables.{goodRows}
 use Rattle.state.specs.Numbers.{TABLES, STATE, PARTY}
 use Rattle.state.specs.State.{State, headOf, held, labelAt, arePair, stateGood}
@@ -31,15 +33,22 @@ judged lim ts roles p q s rest =
     cond (not (stateGood lim ts roles s)) (Refused STATE) (
     cond (not (arePair roles p q)) (Refused PARTY) rest))
 
+-- rule 14 behind rules 12 and 13, of which the first broken one has that number
+abbrev pub partyOf : ℕ → ℕ → ℕ → ℕ → ℕ
+partyOf n roles p q = cond (eqb n ACCEPTED) (cond (arePair roles p q) ACCEPTED PARTY) n
+
+-- the rest, over blocks of so many rows, where the caller stands on row i
+abbrev pub sendFrom : Limits → List ℕ → ℕ → ℕ → ℕ → ℕ → State → ℕ → Turn
+sendFrom lim ts rows p q l s i = sendTurn lim ts (p * rows) rows q l (held lim s p q) (rowAt ts (p * rows) i)
+
+abbrev pub receiveFrom : Limits → List ℕ → ℕ → ℕ → ℕ → State → ℕ → Turn
+receiveFrom lim ts rows p q s i = receiveTurn ts (q * rows) rows p (held lim s p q) (labelAt lim s p q 0) (rowAt ts (q * rows) i)
+
 unfoldable pub sendJudged : Limits → List ℕ → ℕ → ℕ → ℕ → ℕ → State → Turn
-sendJudged lim ts roles p q l s =
-    judged lim ts roles p q s
-    (sendTurn lim ts (p * blockRows ts roles) (blockRows ts roles) q l (held lim s p q) (partRow ts roles p (headOf s p)))
+sendJudged lim ts roles p q l s = judged lim ts roles p q s (sendFrom lim ts (blockRows ts roles) p q l s (headOf s p))
 
 unfoldable pub receiveJudged : Limits → List ℕ → ℕ → ℕ → ℕ → State → Turn
-receiveJudged lim ts roles p q s =
-    judged lim ts roles p q s
-    (receiveTurn ts (q * blockRows ts roles) (blockRows ts roles) p (held lim s p q) (labelAt lim s p q 0) (partRow ts roles q (headOf s q)))
+receiveJudged lim ts roles p q s = judged lim ts roles p q s (receiveFrom lim ts (blockRows ts roles) p q s (headOf s q))
 
 unfoldable pub waitingOf : Limits → List ℕ → ℕ → State → Waiting
 waitingOf lim ts roles s =

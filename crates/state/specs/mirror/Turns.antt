@@ -56,5 +56,5 @@ actsAt lim ts start rows s r (Receive p f x) =
 actsAt lim ts start rows s r Other = false
 
 -- the peer of an action is a role
-abbrev pub LowPeer : Row → Type 0
-LowPeer w = (w .kind ≡ 5 → w .first < 8) × (w .kind ≡ 6 → w .first < 8)
+abbrev pub LowPeer : Limits → Row → Type 0
+LowPeer lim w = (w .kind ≡ 5 → w .first < lim .roles) × (w .kind ≡ 6 → w .first < lim .roles)

@@ -11,21 +11,43 @@ first-requires c κs = search needs
 awaited-requires : tie.Need-awaited-requires
 awaited-requires c κs = search needs
 
-cast-t7 : tie.Need-cast-t7
-cast-t7 c = search needs
+cast-told : tie.Need-cast-told
+cast-told c = search needs
 
-cast-t8 : tie.Need-cast-t8
-cast-t8 c = search needs
+array-write-told : tie.Need-array-write-told
+array-write-told c = search needs
+
+cast-told-2 : tie.Need-cast-told-2
+cast-told-2 c = search needs
+
+array-write-told-2 : tie.Need-array-write-told-2
+array-write-told-2 c = search needs
+
+array-write-told-3 : tie.Need-array-write-told-3
+array-write-told-3 c = search needs
+
+array-write-told-4 : tie.Need-array-write-told-4
+array-write-told-4 c = search needs
 
 called-requires : tie.Need-called-requires
 called-requires c κs = search needs
 
 returns : tie.Need-returns
 returns c =
-    let args = c .before .before .before .before .before .before .args in
-    told (c .called .ensures) (omega arith) (omega arith)
-    (hand-reply (args .run) (args .words .now) _ (args .state) (c .before .before .before .awaited .result) (c .before .before .before .before .first .ensures) (c .before .before .before .awaited .ensures))
+    let a = c .before .before .before .before .before .before .args in
+    told (c .called .ensures) (omega arith) (omega arith) (hand-reply (a .run) (a .words .now) _ (a .state) (c .before .before .before .awaited .result) (c .before .before .before .before .first .ensures) (c .before .before .before .awaited .ensures))
 
 pub hand-spec : {M : Type 1} → statement M
 hand-spec =
-    tie.close (tie.spec first-requires awaited-requires cast-t7 cast-t8 called-requires returns)
+    tie.close
+    (tie.spec
+    first-requires
+    awaited-requires
+    cast-told
+    array-write-told
+    cast-told-2
+    array-write-told-2
+    array-write-told-3
+    array-write-told-4
+    called-requires
+    returns)

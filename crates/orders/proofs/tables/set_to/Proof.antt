@@ -6,11 +6,14 @@ use Rattle.orders.proofs.tables.set_to.Tie as tie
 fresh-requires : tie.Need-fresh-requires
 fresh-requires c κs = search needs
 
-cast-t6 : tie.Need-cast-t6
-cast-t6 c = search needs
+cast-told : tie.Need-cast-told
+cast-told c = search needs
+
+array-write-told : tie.Need-array-write-told
+array-write-told c = search needs
 
 returns : tie.Need-returns
 returns c = rw (c .before .before .fresh .ensures)
 
 pub set-to-spec : {M : Type 1} → statement M
-set-to-spec = tie.close (tie.spec fresh-requires cast-t6 returns)
+set-to-spec = tie.close (tie.spec fresh-requires cast-told array-write-told returns)

@@ -13,24 +13,31 @@ judge-receive-requires c κs = search needs
 enum-known-turn : tie.Need-enum-known-turn
 enum-known-turn c = search needs
 
+of-requires : tie.Need-of-requires
+of-requires c κs = search needs
+
 enum-known-turn-2 : tie.Need-enum-known-turn-2
 enum-known-turn-2 c = search needs
 
 take-requires : tie.Need-take-requires
 take-requires c κs =
-    let to = receive-to (c .before .before .before .before .before .before .before .before .before .before .args .tables .now) (c .before .before .before .before .before .before .before .before .before .before .args .roles) (c .before .before .before .before .before .before .before .before .before .before .args .sender) (c .before .before .before .before .before .before .before .before .before .before .args .receiver) (listed (c .before .before .before .before .before .before .before .before .before .before .args .t1)) _ (sym (c .before .before .before .judge-receive .ensures) ∙ c .before .turn2 .given .1) in
+    let a = c .before .before .before .before .before .before .before .before .before .before .args in
+    let to = receive-to (a .tables .now) (a .roles) (a .sender) (a .receiver) (listed (a .t1)) _ (sym (c .before .before .before .judge-receive .ensures) ∙ c .before .turn2 .given .1) in
     (to .p-low, to .q-low, to .received .some-held)
 
 returns : tie.Need-returns
 returns c =
-    ap (afterReceive (c .before .before .before .before .before .before .before .before .before .before .args .tables .now) (c .before .before .before .before .before .before .before .before .before .before .args .roles) (c .before .before .before .before .before .before .before .before .before .before .args .sender) (c .before .before .before .before .before .before .before .before .before .before .args .receiver) (c .before .before .before .before .before .before .before .before .before .before .args .t1)) (sym (c .before .turn .given .1) ∙ c .before .before .before .judge-receive .ensures)
-    ∙ after-receive (c .before .before .before .before .before .before .before .before .before .before .args .tables .now) (c .before .before .before .before .before .before .before .before .before .before .args .roles) (c .before .before .before .before .before .before .before .before .before .before .args .sender) (c .before .before .before .before .before .before .before .before .before .before .args .receiver) (c .before .before .before .before .before .before .before .before .before .before .args .t1)
+    let a = c .before .before .before .before .before .before .before .before .before .before .before .args in
+    c .of .ensures
+    ∙ ap (afterReceive (a .tables .now) (a .roles) (a .sender) (a .receiver) (a .t1)) (sym (c .before .before .turn .given .1) ∙ c .before .before .before .before .judge-receive .ensures)
+    ∙ after-receive (a .tables .now) (a .roles) (a .sender) (a .receiver) (a .t1)
 
 returns-2 : tie.Need-returns-2
 returns-2 c =
+    let a = c .before .before .before .before .before .before .before .before .before .before .before .args in
     c .take .ensures
-    ∙ ap (afterReceive (c .before .before .before .before .before .before .before .before .before .before .before .args .tables .now) (c .before .before .before .before .before .before .before .before .before .before .before .args .roles) (c .before .before .before .before .before .before .before .before .before .before .before .args .sender) (c .before .before .before .before .before .before .before .before .before .before .before .args .receiver) (c .before .before .before .before .before .before .before .before .before .before .before .args .t1)) (sym (c .before .before .turn2 .given .1) ∙ c .before .before .before .before .judge-receive .ensures)
-    ∙ after-receive (c .before .before .before .before .before .before .before .before .before .before .before .args .tables .now) (c .before .before .before .before .before .before .before .before .before .before .before .args .roles) (c .before .before .before .before .before .before .before .before .before .before .before .args .sender) (c .before .before .before .before .before .before .before .before .before .before .before .args .receiver) (c .before .before .before .before .before .before .before .before .before .before .before .args .t1)
+    ∙ ap (afterReceive (a .tables .now) (a .roles) (a .sender) (a .receiver) (a .t1)) (sym (c .before .before .turn2 .given .1) ∙ c .before .before .before .before .judge-receive .ensures)
+    ∙ after-receive (a .tables .now) (a .roles) (a .sender) (a .receiver) (a .t1)
 
 pub receive-spec : {M : Type 1} → statement M
 receive-spec =
@@ -38,6 +45,7 @@ receive-spec =
     (tie.spec
     judge-receive-requires
     enum-known-turn
+    of-requires
     enum-known-turn-2
     take-requires
     returns

@@ -13,26 +13,45 @@ judge-send-requires c κs = search needs
 enum-known-turn : tie.Need-enum-known-turn
 enum-known-turn c = search needs
 
+of-requires : tie.Need-of-requires
+of-requires c κs = search needs
+
 enum-known-turn-2 : tie.Need-enum-known-turn-2
 enum-known-turn-2 c = search needs
 
-put-requires : tie.Need-put-requires
-put-requires c κs =
-    let to = send-to (c .before .before .before .before .before .before .before .before .before .before .args .tables .now) (c .before .before .before .before .before .before .before .before .before .before .args .roles) (c .before .before .before .before .before .before .before .before .before .before .args .sender) (c .before .before .before .before .before .before .before .before .before .before .args .receiver) (listed (c .before .before .before .before .before .before .before .before .before .before .args .t1)) _ (c .before .before .before .before .before .before .before .before .before .before .args .label) (sym (c .before .before .before .judge-send .ensures) ∙ c .before .turn2 .given .1) in
+push-requires : tie.Need-push-requires
+push-requires c κs =
+    let a = c .before .before .before .before .before .before .before .before .before .before .args in
+    let to = send-to (a .tables .now) (a .roles) (a .sender) (a .receiver) (listed (a .t1)) _ (a .label) (sym (c .before .before .before .judge-send .ensures) ∙ c .before .turn2 .given .1) in
     (to .p-low, to .q-low, to .reached .low, to .sent .room)
+
+of-requires-2 : tie.Need-of-requires-2
+of-requires-2 c κs = search needs
 
 returns : tie.Need-returns
 returns c =
-    ap (afterSend (c .before .before .before .before .before .before .before .before .before .before .args .tables .now) (c .before .before .before .before .before .before .before .before .before .before .args .roles) (c .before .before .before .before .before .before .before .before .before .before .args .sender) (c .before .before .before .before .before .before .before .before .before .before .args .receiver) (c .before .before .before .before .before .before .before .before .before .before .args .t1) (c .before .before .before .before .before .before .before .before .before .before .args .label) (c .before .before .before .before .before .before .before .before .before .before .args .payload)) (sym (c .before .turn .given .1) ∙ c .before .before .before .judge-send .ensures)
-    ∙ after-send (c .before .before .before .before .before .before .before .before .before .before .args .tables .now) (c .before .before .before .before .before .before .before .before .before .before .args .roles) (c .before .before .before .before .before .before .before .before .before .before .args .sender) (c .before .before .before .before .before .before .before .before .before .before .args .receiver) (c .before .before .before .before .before .before .before .before .before .before .args .t1) (c .before .before .before .before .before .before .before .before .before .before .args .label) (c .before .before .before .before .before .before .before .before .before .before .args .payload)
+    let a = c .before .before .before .before .before .before .before .before .before .before .before .args in
+    c .of .ensures
+    ∙ ap (afterSend (a .tables .now) (a .roles) (a .sender) (a .receiver) (a .t1) (a .label) (a .payload)) (sym (c .before .before .turn .given .1) ∙ c .before .before .before .before .judge-send .ensures)
+    ∙ after-send (a .tables .now) (a .roles) (a .sender) (a .receiver) (a .t1) (a .label) (a .payload)
 
 returns-2 : tie.Need-returns-2
 returns-2 c =
-    rw (c .put .ensures)
-    (ap (afterSend (c .before .before .before .before .before .before .before .before .before .before .before .args .tables .now) (c .before .before .before .before .before .before .before .before .before .before .before .args .roles) (c .before .before .before .before .before .before .before .before .before .before .before .args .sender) (c .before .before .before .before .before .before .before .before .before .before .before .args .receiver) (c .before .before .before .before .before .before .before .before .before .before .before .args .t1) (c .before .before .before .before .before .before .before .before .before .before .before .args .label) (c .before .before .before .before .before .before .before .before .before .before .before .args .payload)) (sym (c .before .before .turn2 .given .1) ∙ c .before .before .before .before .judge-send .ensures)
-    ∙ after-send (c .before .before .before .before .before .before .before .before .before .before .before .args .tables .now) (c .before .before .before .before .before .before .before .before .before .before .before .args .roles) (c .before .before .before .before .before .before .before .before .before .before .before .args .sender) (c .before .before .before .before .before .before .before .before .before .before .before .args .receiver) (c .before .before .before .before .before .before .before .before .before .before .before .args .t1) (c .before .before .before .before .before .before .before .before .before .before .before .args .label) (c .before .before .before .before .before .before .before .before .before .before .before .args .payload))
+    let a = c .before .before .before .before .before .before .before .before .before .before .before .before .args in
+    c .of2 .ensures
+    ∙ rw (c .before .push .ensures)
+    (ap (afterSend (a .tables .now) (a .roles) (a .sender) (a .receiver) (a .t1) (a .label) (a .payload)) (sym (c .before .before .before .turn2 .given .1) ∙ c .before .before .before .before .before .judge-send .ensures)
+    ∙ after-send (a .tables .now) (a .roles) (a .sender) (a .receiver) (a .t1) (a .label) (a .payload))
 
 pub send-spec : {M : Type 1} → statement M
 send-spec =
     tie.close
-    (tie.spec judge-send-requires enum-known-turn enum-known-turn-2 put-requires returns returns-2)
+    (tie.spec
+    judge-send-requires
+    enum-known-turn
+    of-requires
+    enum-known-turn-2
+    push-requires
+    of-requires-2
+    returns
+    returns-2)

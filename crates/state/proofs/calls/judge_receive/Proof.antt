@@ -1,127 +1,38 @@
 -- `calls::judge_receive` meets its contract. Assumes nothing.
-use mathlib.Core.Path.{sym, _∙_}
-use native.Mathlib.Omega.{arith}
-use borrow.Author.Tests.{not-true, not-false}
+use mathlib.Core.Path.{_∙_}
 use Rattle.state.specs.mirror.State.{stateOf}
 use Rattle.state.specs.mirror.Judged.{receiveJudged}
-use Rattle.state.proofs.Sound.{pair-in}
-use Rattle.state.proofs.Judging.{ground-refuses, ground-stands, stood-bounds, stood-start, not-pair, receive-judged}
+use Rattle.state.proofs.Judging.{party-refuses, party-stands, pair-low, receive-judged}
 use borrow.Author.Needs.{needs}
 use Rattle.state.proofs.calls.judge_receive.Statement.{statement}
 use Rattle.state.proofs.calls.judge_receive.Tie as tie
 
-standing-requires : tie.Need-standing-requires
-standing-requires c κs = search needs
+ground-of-requires : tie.Need-ground-of-requires
+ground-of-requires c κs = search needs
+
+party-requires : tie.Need-party-requires
+party-requires c κs = search needs
 
 returns : tie.Need-returns
 unfolding receiveJudged
-returns c = ground-refuses (c .before .before .before .before .args .tables .now) (c .before .before .before .before .args .roles) (stateOf (c .before .before .before .before .args .heads .now) (c .before .before .before .before .args .counts .now) (c .before .before .before .before .args .labels .now) (c .before .before .before .before .args .payloads .now)) (c .before .before .standing .ensures) (c .before .before .before .before .args .sender) (c .before .before .before .before .args .receiver) _ (c .if1 .taken)
+returns c =
+    let a = c .before .before .before .before .args in
+    party-refuses (a .tables .now) (a .roles) (stateOf (a .heads .now) (a .counts .now) (a .labels .now) (a .payloads .now)) (a .sender) (a .receiver) (c .before .before .ground-of .ensures) (c .before .party .ensures) _ (c .if1 .taken)
 
-are-pair-requires : tie.Need-are-pair-requires
-are-pair-requires c κs = search needs
+receive-from-requires : tie.Need-receive-from-requires
+receive-from-requires c κs =
+    let a = c .before .before .before .before .args in
+    let s = stateOf (a .heads .now) (a .counts .now) (a .labels .now) (a .payloads .now) in
+    let (st, two) = party-stands (a .tables .now) (a .roles) s (a .sender) (a .receiver) (c .before .before .ground-of .ensures) (c .before .party .ensures) (c .if1 .left) in
+    pair-low (a .tables .now) (a .roles) _ s st (a .sender) (a .receiver) two
 
 returns-2 : tie.Need-returns-2
-unfolding receiveJudged
 returns-2 c =
-    let st = ground-stands (c .before .before .before .before .before .before .args .tables .now) (c .before .before .before .before .before .before .args .roles) (stateOf (c .before .before .before .before .before .before .args .heads .now) (c .before .before .before .before .before .before .args .counts .now) (c .before .before .before .before .before .before .args .labels .now) (c .before .before .before .before .before .before .args .payloads .now)) (c .before .before .before .before .standing .ensures) (c .before .before .if1 .left) in
-    not-pair (c .before .before .before .before .before .before .args .tables .now) (c .before .before .before .before .before .before .args .roles) _ (stateOf (c .before .before .before .before .before .before .args .heads .now) (c .before .before .before .before .before .before .args .counts .now) (c .before .before .before .before .before .before .args .labels .now) (c .before .before .before .before .before .before .args .payloads .now)) st (c .before .before .before .before .before .before .args .sender) (c .before .before .before .before .before .before .args .receiver) _ (sym (c .before .are-pair .ensures) ∙ not-true (c .before .are-pair .result) (c .if2 .taken))
-
-mul-start : tie.Need-mul-start
-mul-start c =
-    let st = ground-stands (c .before .before .before .before .before .before .before .args .tables .now) (c .before .before .before .before .before .before .before .args .roles) (stateOf (c .before .before .before .before .before .before .before .args .heads .now) (c .before .before .before .before .before .before .before .args .counts .now) (c .before .before .before .before .before .before .before .args .labels .now) (c .before .before .before .before .before .before .before .args .payloads .now)) (c .before .before .before .before .before .standing .ensures) (c .before .before .before .if1 .left) in
-    let two = sym (c .before .before .are-pair .ensures) ∙ not-false (c .before .before .are-pair .result) (c .before .if2 .left) in
-    let b = stood-bounds (c .before .before .before .before .before .before .before .args .tables .now) (c .before .before .before .before .before .before .before .args .roles) _ (stateOf (c .before .before .before .before .before .before .before .args .heads .now) (c .before .before .before .before .before .before .before .args .counts .now) (c .before .before .before .before .before .before .before .args .labels .now) (c .before .before .before .before .before .before .before .args .payloads .now)) st in
-    let i = pair-in (c .before .before .before .before .before .before .before .args .roles) (c .before .before .before .before .before .before .before .args .sender) (c .before .before .before .before .before .before .before .args .receiver) two in
-    omega (arith, stood-start (c .before .before .before .before .before .before .before .args .tables .now) (c .before .before .before .before .before .before .before .args .roles) _ (stateOf (c .before .before .before .before .before .before .before .args .heads .now) (c .before .before .before .before .before .before .before .args .counts .now) (c .before .before .before .before .before .before .before .args .labels .now) (c .before .before .before .before .before .before .before .args .payloads .now)) st _ (i .1))
-
-mul-wide : tie.Need-mul-wide
-mul-wide c =
-    let st = ground-stands (c .before .before .before .before .before .before .before .args .tables .now) (c .before .before .before .before .before .before .before .args .roles) (stateOf (c .before .before .before .before .before .before .before .args .heads .now) (c .before .before .before .before .before .before .before .args .counts .now) (c .before .before .before .before .before .before .before .args .labels .now) (c .before .before .before .before .before .before .before .args .payloads .now)) (c .before .before .before .before .before .standing .ensures) (c .before .before .before .if1 .left) in
-    let two = sym (c .before .before .are-pair .ensures) ∙ not-false (c .before .before .are-pair .result) (c .before .if2 .left) in
-    let b = stood-bounds (c .before .before .before .before .before .before .before .args .tables .now) (c .before .before .before .before .before .before .before .args .roles) _ (stateOf (c .before .before .before .before .before .before .before .args .heads .now) (c .before .before .before .before .before .before .before .args .counts .now) (c .before .before .before .before .before .before .before .args .labels .now) (c .before .before .before .before .before .before .before .args .payloads .now)) st in
-    let i = pair-in (c .before .before .before .before .before .before .before .args .roles) (c .before .before .before .before .before .before .before .args .sender) (c .before .before .before .before .before .before .before .args .receiver) two in
-    omega (arith, b .1, i .1)
-
-element-copy-out-wide : tie.Need-element-copy-out-wide
-element-copy-out-wide c =
-    let st = ground-stands (c .before .before .before .before .before .before .before .args .tables .now) (c .before .before .before .before .before .before .before .args .roles) (stateOf (c .before .before .before .before .before .before .before .args .heads .now) (c .before .before .before .before .before .before .before .args .counts .now) (c .before .before .before .before .before .before .before .args .labels .now) (c .before .before .before .before .before .before .before .args .payloads .now)) (c .before .before .before .before .before .standing .ensures) (c .before .before .before .if1 .left) in
-    let two = sym (c .before .before .are-pair .ensures) ∙ not-false (c .before .before .are-pair .result) (c .before .if2 .left) in
-    let b = stood-bounds (c .before .before .before .before .before .before .before .args .tables .now) (c .before .before .before .before .before .before .before .args .roles) _ (stateOf (c .before .before .before .before .before .before .before .args .heads .now) (c .before .before .before .before .before .before .before .args .counts .now) (c .before .before .before .before .before .before .before .args .labels .now) (c .before .before .before .before .before .before .before .args .payloads .now)) st in
-    let i = pair-in (c .before .before .before .before .before .before .before .args .roles) (c .before .before .before .before .before .before .before .args .sender) (c .before .before .before .before .before .before .before .args .receiver) two in
-    omega (arith, b .1, i .1)
-
-wide-requires : tie.Need-wide-requires
-wide-requires c κs = search needs
-
-row-at-requires : tie.Need-row-at-requires
-row-at-requires c κs = search needs
-
-mul-pair : tie.Need-mul-pair
-mul-pair c =
-    let st = ground-stands (c .before .before .before .before .before .before .before .before .before .before .args .tables .now) (c .before .before .before .before .before .before .before .before .before .before .args .roles) (stateOf (c .before .before .before .before .before .before .before .before .before .before .args .heads .now) (c .before .before .before .before .before .before .before .before .before .before .args .counts .now) (c .before .before .before .before .before .before .before .before .before .before .args .labels .now) (c .before .before .before .before .before .before .before .before .before .before .args .payloads .now)) (c .before .before .before .before .before .before .before .before .standing .ensures) (c .before .before .before .before .before .before .if1 .left) in
-    let two = sym (c .before .before .before .before .before .are-pair .ensures) ∙ not-false (c .before .before .before .before .before .are-pair .result) (c .before .before .before .before .if2 .left) in
-    let b = stood-bounds (c .before .before .before .before .before .before .before .before .before .before .args .tables .now) (c .before .before .before .before .before .before .before .before .before .before .args .roles) _ (stateOf (c .before .before .before .before .before .before .before .before .before .before .args .heads .now) (c .before .before .before .before .before .before .before .before .before .before .args .counts .now) (c .before .before .before .before .before .before .before .before .before .before .args .labels .now) (c .before .before .before .before .before .before .before .before .before .before .args .payloads .now)) st in
-    let i = pair-in (c .before .before .before .before .before .before .before .before .before .before .args .roles) (c .before .before .before .before .before .before .before .before .before .before .args .sender) (c .before .before .before .before .before .before .before .before .before .before .args .receiver) two in
-    omega (arith, b .1, i .0, i .1)
-
-add-pair : tie.Need-add-pair
-add-pair c =
-    let st = ground-stands (c .before .before .before .before .before .before .before .before .before .before .args .tables .now) (c .before .before .before .before .before .before .before .before .before .before .args .roles) (stateOf (c .before .before .before .before .before .before .before .before .before .before .args .heads .now) (c .before .before .before .before .before .before .before .before .before .before .args .counts .now) (c .before .before .before .before .before .before .before .before .before .before .args .labels .now) (c .before .before .before .before .before .before .before .before .before .before .args .payloads .now)) (c .before .before .before .before .before .before .before .before .standing .ensures) (c .before .before .before .before .before .before .if1 .left) in
-    let two = sym (c .before .before .before .before .before .are-pair .ensures) ∙ not-false (c .before .before .before .before .before .are-pair .result) (c .before .before .before .before .if2 .left) in
-    let b = stood-bounds (c .before .before .before .before .before .before .before .before .before .before .args .tables .now) (c .before .before .before .before .before .before .before .before .before .before .args .roles) _ (stateOf (c .before .before .before .before .before .before .before .before .before .before .args .heads .now) (c .before .before .before .before .before .before .before .before .before .before .args .counts .now) (c .before .before .before .before .before .before .before .before .before .before .args .labels .now) (c .before .before .before .before .before .before .before .before .before .before .args .payloads .now)) st in
-    let i = pair-in (c .before .before .before .before .before .before .before .before .before .before .args .roles) (c .before .before .before .before .before .before .before .before .before .before .args .sender) (c .before .before .before .before .before .before .before .before .before .before .args .receiver) two in
-    omega (arith, b .1, i .0, i .1)
-
-mul-label : tie.Need-mul-label
-mul-label c =
-    let st = ground-stands (c .before .before .before .before .before .before .before .before .before .before .args .tables .now) (c .before .before .before .before .before .before .before .before .before .before .args .roles) (stateOf (c .before .before .before .before .before .before .before .before .before .before .args .heads .now) (c .before .before .before .before .before .before .before .before .before .before .args .counts .now) (c .before .before .before .before .before .before .before .before .before .before .args .labels .now) (c .before .before .before .before .before .before .before .before .before .before .args .payloads .now)) (c .before .before .before .before .before .before .before .before .standing .ensures) (c .before .before .before .before .before .before .if1 .left) in
-    let two = sym (c .before .before .before .before .before .are-pair .ensures) ∙ not-false (c .before .before .before .before .before .are-pair .result) (c .before .before .before .before .if2 .left) in
-    let b = stood-bounds (c .before .before .before .before .before .before .before .before .before .before .args .tables .now) (c .before .before .before .before .before .before .before .before .before .before .args .roles) _ (stateOf (c .before .before .before .before .before .before .before .before .before .before .args .heads .now) (c .before .before .before .before .before .before .before .before .before .before .args .counts .now) (c .before .before .before .before .before .before .before .before .before .before .args .labels .now) (c .before .before .before .before .before .before .before .before .before .before .args .payloads .now)) st in
-    let i = pair-in (c .before .before .before .before .before .before .before .before .before .before .args .roles) (c .before .before .before .before .before .before .before .before .before .before .args .sender) (c .before .before .before .before .before .before .before .before .before .before .args .receiver) two in
-    omega (arith, b .1, i .0, i .1)
-
-element-copy-out-label : tie.Need-element-copy-out-label
-element-copy-out-label c =
-    let st = ground-stands (c .before .before .before .before .before .before .before .before .before .before .args .tables .now) (c .before .before .before .before .before .before .before .before .before .before .args .roles) (stateOf (c .before .before .before .before .before .before .before .before .before .before .args .heads .now) (c .before .before .before .before .before .before .before .before .before .before .args .counts .now) (c .before .before .before .before .before .before .before .before .before .before .args .labels .now) (c .before .before .before .before .before .before .before .before .before .before .args .payloads .now)) (c .before .before .before .before .before .before .before .before .standing .ensures) (c .before .before .before .before .before .before .if1 .left) in
-    let two = sym (c .before .before .before .before .before .are-pair .ensures) ∙ not-false (c .before .before .before .before .before .are-pair .result) (c .before .before .before .before .if2 .left) in
-    let b = stood-bounds (c .before .before .before .before .before .before .before .before .before .before .args .tables .now) (c .before .before .before .before .before .before .before .before .before .before .args .roles) _ (stateOf (c .before .before .before .before .before .before .before .before .before .before .args .heads .now) (c .before .before .before .before .before .before .before .before .before .before .args .counts .now) (c .before .before .before .before .before .before .before .before .before .before .args .labels .now) (c .before .before .before .before .before .before .before .before .before .before .args .payloads .now)) st in
-    let i = pair-in (c .before .before .before .before .before .before .before .before .before .before .args .roles) (c .before .before .before .before .before .before .before .before .before .before .args .sender) (c .before .before .before .before .before .before .before .before .before .before .args .receiver) two in
-    omega (arith, b .1, i .0, i .1)
-
-element-copy-out-receive-turn : tie.Need-element-copy-out-receive-turn
-element-copy-out-receive-turn c =
-    let st = ground-stands (c .before .before .before .before .before .before .before .before .before .before .before .args .tables .now) (c .before .before .before .before .before .before .before .before .before .before .before .args .roles) (stateOf (c .before .before .before .before .before .before .before .before .before .before .before .args .heads .now) (c .before .before .before .before .before .before .before .before .before .before .before .args .counts .now) (c .before .before .before .before .before .before .before .before .before .before .before .args .labels .now) (c .before .before .before .before .before .before .before .before .before .before .before .args .payloads .now)) (c .before .before .before .before .before .before .before .before .before .standing .ensures) (c .before .before .before .before .before .before .before .if1 .left) in
-    let two = sym (c .before .before .before .before .before .before .are-pair .ensures) ∙ not-false (c .before .before .before .before .before .before .are-pair .result) (c .before .before .before .before .before .if2 .left) in
-    let b = stood-bounds (c .before .before .before .before .before .before .before .before .before .before .before .args .tables .now) (c .before .before .before .before .before .before .before .before .before .before .before .args .roles) _ (stateOf (c .before .before .before .before .before .before .before .before .before .before .before .args .heads .now) (c .before .before .before .before .before .before .before .before .before .before .before .args .counts .now) (c .before .before .before .before .before .before .before .before .before .before .before .args .labels .now) (c .before .before .before .before .before .before .before .before .before .before .before .args .payloads .now)) st in
-    let i = pair-in (c .before .before .before .before .before .before .before .before .before .before .before .args .roles) (c .before .before .before .before .before .before .before .before .before .before .before .args .sender) (c .before .before .before .before .before .before .before .before .before .before .before .args .receiver) two in
-    omega (arith, b .1, i .0, i .1)
-
-receive-turn-requires : tie.Need-receive-turn-requires
-receive-turn-requires c κs = search needs
-
-returns-3 : tie.Need-returns-3
-returns-3 c =
-    let st = ground-stands (c .before .before .before .before .before .before .before .before .before .before .before .before .before .args .tables .now) (c .before .before .before .before .before .before .before .before .before .before .before .before .before .args .roles) (stateOf (c .before .before .before .before .before .before .before .before .before .before .before .before .before .args .heads .now) (c .before .before .before .before .before .before .before .before .before .before .before .before .before .args .counts .now) (c .before .before .before .before .before .before .before .before .before .before .before .before .before .args .labels .now) (c .before .before .before .before .before .before .before .before .before .before .before .before .before .args .payloads .now)) (c .before .before .before .before .before .before .before .before .before .before .before .standing .ensures) (c .before .before .before .before .before .before .before .before .before .if1 .left) in
-    let two = sym (c .before .before .before .before .before .before .before .before .are-pair .ensures) ∙ not-false (c .before .before .before .before .before .before .before .before .are-pair .result) (c .before .before .before .before .before .before .before .if2 .left) in
-    c .receive-turn .ensures ∙ receive-judged (c .before .before .before .before .before .before .before .before .before .before .before .before .before .args .tables .now) (c .before .before .before .before .before .before .before .before .before .before .before .before .before .args .roles) _ (stateOf (c .before .before .before .before .before .before .before .before .before .before .before .before .before .args .heads .now) (c .before .before .before .before .before .before .before .before .before .before .before .before .before .args .counts .now) (c .before .before .before .before .before .before .before .before .before .before .before .before .before .args .labels .now) (c .before .before .before .before .before .before .before .before .before .before .before .before .before .args .payloads .now)) st (c .before .before .before .before .before .before .before .before .before .before .before .before .before .args .sender) (c .before .before .before .before .before .before .before .before .before .before .before .before .before .args .receiver) two (c .before .before .before .before .wide .ensures .0) (c .before .before .before .row-at .ensures)
+    let a = c .before .before .before .before .before .args in
+    let s = stateOf (a .heads .now) (a .counts .now) (a .labels .now) (a .payloads .now) in
+    let (st, two) = party-stands (a .tables .now) (a .roles) s (a .sender) (a .receiver) (c .before .before .before .ground-of .ensures) (c .before .before .party .ensures) (c .before .if1 .left) in
+    c .receive-from .ensures ∙ receive-judged (a .tables .now) (a .roles) _ s st (a .sender) (a .receiver) two
 
 pub judge-receive-spec : {M : Type 1} → statement M
 judge-receive-spec =
-    tie.close
-    (tie.spec
-    standing-requires
-    returns
-    are-pair-requires
-    returns-2
-    mul-start
-    mul-wide
-    element-copy-out-wide
-    wide-requires
-    row-at-requires
-    mul-pair
-    add-pair
-    mul-label
-    element-copy-out-label
-    element-copy-out-receive-turn
-    receive-turn-requires
-    returns-3)
+    tie.close (tie.spec ground-of-requires party-requires returns receive-from-requires returns-2)

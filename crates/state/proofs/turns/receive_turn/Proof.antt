@@ -1,83 +1,18 @@
 -- `turns::receive_turn` meets its contract. Assumes nothing.
-use Rattle.blocks.specs.Head.{find}
-use Rattle.blocks.specs.mirror.Rows.{chainAt}
-use mathlib.Core.Path.{sym, _∙_}
-use borrow.Author.Tests.{eq-eqb, ne-eqb}
 use Rattle.table.specs.Limits.{base}
-use Rattle.state.specs.mirror.Turns.{receiveTurn, receiveFound}
-use Rattle.state.proofs.Turning.{found-nothing, found-at, no-receive}
+use Rattle.state.proofs.Turning.{no-receive}
 use borrow.Author.Needs.{needs}
 use Rattle.state.proofs.turns.receive_turn.Statement.{statement}
 use Rattle.state.proofs.turns.receive_turn.Tie as tie
 
-returns : tie.Need-returns
-returns c = no-receive base _ _ _ _ _ _ _ _ _ _ (c .if1 .taken)
+receive-arm-requires : tie.Need-receive-arm-requires
+receive-arm-requires c κs = search needs
 
-wide-requires : tie.Need-wide-requires
-wide-requires c κs = search needs
+returns : tie.Need-returns
+returns c = rw (c .before .match .keys1) (c .receive-arm .ensures)
 
 returns-2 : tie.Need-returns-2
-unfolding receiveTurn
-returns-2 c = rw (c .before .before .if1 .left, ne-eqb _ _ (λ e. c .if2 .taken (c .before .wide .ensures .0 ∙ e)))
-
-returns-3 : tie.Need-returns-3
-unfolding receiveTurn
-returns-3 c = rw (c .before .before .before .if1 .left, eq-eqb _ _ (sym (c .before .before .wide .ensures .0) ∙ c .before .if2 .left), eq-eqb _ _ (c .if3 .taken))
-
-wide-requires-2 : tie.Need-wide-requires-2
-wide-requires-2 c κs = search needs
-
-find-arm-requires : tie.Need-find-arm-requires
-find-arm-requires c κs = search needs
-
-enum-told : tie.Need-enum-told
-enum-told c = search needs
-
-enum-known-found : tie.Need-enum-known-found
-enum-known-found c = search needs
-
-head-requires : tie.Need-head-requires
-head-requires c κs = search needs
-
-returns-4 : tie.Need-returns-4
-unfolding receiveTurn receiveFound
-returns-4 c =
-    let a = c .before .before .before .before .before .before .before .before .before .before .args in
-    let o = find (c .before .before .before .wide2 .result) (chainAt (a .rows) (a .tables .now) (a .start) (a .part .second)) in
-    rw (
-      c .before .before .before .before .before .before .before .if1 .left,
-      eq-eqb _ _ (sym (c .before .before .before .before .before .before .wide .ensures .0) ∙ c .before .before .before .before .before .if2 .left),
-      ne-eqb _ _ (c .before .before .before .before .if3 .left),
-      ← (c .before .before .before .wide2 .ensures .0),
-      found-nothing o (sym (c .before .before .find-arm .ensures) ∙ c .enum-told .given .1),
-    )
-
-returns-5 : tie.Need-returns-5
-unfolding receiveTurn receiveFound
-returns-5 c =
-    let a = c .before .before .before .before .before .before .before .before .before .before .before .before .args in
-    let o = find (c .before .before .before .before .before .wide2 .result) (chainAt (a .rows) (a .tables .now) (a .start) (a .part .second)) in
-    rw (
-      c .before .before .before .before .before .before .before .before .before .if1 .left,
-      eq-eqb _ _ (sym (c .before .before .before .before .before .before .before .before .wide .ensures .0) ∙ c .before .before .before .before .before .before .before .if2 .left),
-      ne-eqb _ _ (c .before .before .before .before .before .before .if3 .left),
-      ← (c .before .before .before .before .before .wide2 .ensures .0),
-      found-at o _ (sym (c .before .before .before .before .find-arm .ensures) ∙ c .before .before .found .given .1),
-      c .head .ensures,
-    )
+returns-2 c = no-receive base _ _ _ _ _ _ _ _ _ _ (c .match .rest .1)
 
 pub receive-turn-spec : {M : Type 1} → statement M
-receive-turn-spec =
-    tie.close
-    (tie.spec
-    returns
-    wide-requires
-    returns-2
-    returns-3
-    wide-requires-2
-    find-arm-requires
-    enum-told
-    enum-known-found
-    head-requires
-    returns-4
-    returns-5)
+receive-turn-spec = tie.close (tie.spec receive-arm-requires returns returns-2)

@@ -1,7 +1,7 @@
--- `lent::taken` meets its contract. Assumes nothing.
+-- `lent::read_in` meets its contract. Assumes nothing.
 use borrow.Author.Needs.{needs}
-use Rattle.lent.proofs.taken.Statement.{statement}
-use Rattle.lent.proofs.taken.Tie as tie
+use Rattle.lent.proofs.read_in.Statement.{statement}
+use Rattle.lent.proofs.read_in.Tie as tie
 
 slice-aggregate-copy-u16 : tie.Need-slice-aggregate-copy-u16
 slice-aggregate-copy-u16 c = search needs
@@ -40,8 +40,8 @@ returns c =
       c .before .before .copy-u32 .ensures,
     )
 
-pub taken-spec : {M : Type 1} → statement M
-taken-spec =
+pub read-in-spec : {M : Type 1} → statement M
+read-in-spec =
     tie.close
     (tie.spec
     slice-aggregate-copy-u16

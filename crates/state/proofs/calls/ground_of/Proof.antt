@@ -1,11 +1,11 @@
--- `calls::standing` meets its contract. Assumes nothing.
+-- `calls::ground_of` meets its contract. Assumes nothing.
 use mathlib.Core.Path.{sym, _∙_}
 use borrow.Author.Tests.{not-true, not-false}
 use Rattle.state.specs.mirror.Judged.{groundOf}
 use Rattle.blocks.proofs.Sound.{bad-tables, good-tables}
 use borrow.Author.Needs.{needs}
-use Rattle.state.proofs.calls.standing.Statement.{statement}
-use Rattle.state.proofs.calls.standing.Tie as tie
+use Rattle.state.proofs.calls.ground_of.Statement.{statement}
+use Rattle.state.proofs.calls.ground_of.Tie as tie
 
 rows-of-requires : tie.Need-rows-of-requires
 rows-of-requires c κs = search needs
@@ -33,6 +33,6 @@ returns-3 c =
     let g = good-tables (c .before .before .before .before .before .args .tables .now) (c .before .before .before .before .before .args .roles) _ (c .before .before .before .rows-of .ensures) (c .before .before .if1 .left) in
     rw (← (c .before .before .before .rows-of .ensures), g .0, ← (c .before .state-good .ensures), not-false (c .before .state-good .result) (c .if2 .left))
 
-pub standing-spec : {M : Type 1} → statement M
-standing-spec =
+pub ground-of-spec : {M : Type 1} → statement M
+ground-of-spec =
     tie.close (tie.spec rows-of-requires returns state-good-requires returns-2 returns-3)

@@ -1,0 +1,77 @@
+-- `turns::receive_arm` meets its contract. Assumes nothing.
+use mathlib.Core.Path.{sym, _∙_}
+use borrow.Author.Tests.{eq-eqb, ne-eqb}
+use Rattle.blocks.specs.Head.{find}
+use Rattle.blocks.specs.mirror.Rows.{chainAt}
+use Rattle.state.specs.mirror.Turns.{receiveTurn, receiveFound}
+use Rattle.state.proofs.Turning.{found-nothing, found-at}
+use borrow.Author.Needs.{needs}
+use Rattle.state.proofs.turns.receive_arm.Statement.{statement}
+use Rattle.state.proofs.turns.receive_arm.Tie as tie
+use Rattle.words.proofs.wide.Reads as wide-reads′
+
+wide-requires : tie.Need-wide-requires
+wide-requires c κs = search needs
+
+returns : tie.Need-returns
+unfolding receiveTurn
+returns c = rw (ne-eqb _ _ (λ e. c .if1 .taken (c .before .wide .ensures .0 ∙ e)))
+
+returns-2 : tie.Need-returns-2
+unfolding receiveTurn
+returns-2 c = rw (eq-eqb _ _ (sym (c .before .before .wide .ensures .0) ∙ c .before .if1 .left), eq-eqb _ _ (c .if2 .taken))
+
+wide-requires-2 : tie.Need-wide-requires-2
+wide-requires-2 c κs = search needs
+
+find-arm-requires : tie.Need-find-arm-requires
+find-arm-requires c κs = search needs
+
+enum-told : tie.Need-enum-told
+enum-told c = search needs
+
+enum-known-found : tie.Need-enum-known-found
+enum-known-found c = search needs
+
+head-requires : tie.Need-head-requires
+head-requires c κs = search needs
+
+returns-3 : tie.Need-returns-3
+unfolding receiveTurn receiveFound
+returns-3 c =
+    let a = c .before .before .before .before .before .before .before .before .args in
+    let o = find (c .before .before .before .wide2 .result) (chainAt (a .rows) (a .tables .now) (a .start) (a .part .second)) in
+    rw (
+      eq-eqb _ _ (sym (c .before .before .before .before .before .before .wide .ensures .0) ∙ c .before .before .before .before .before .if1 .left),
+      ne-eqb _ _ (c .before .before .before .before .if2 .left),
+      ← (c .before .before .before .wide2 .ensures .0),
+      found-nothing o (sym (c .before .before .find-arm .ensures) ∙ c .enum-told .given .1),
+    )
+
+returns-4 : tie.Need-returns-4
+unfolding receiveTurn receiveFound
+returns-4 c =
+    let a = c .before .before .before .before .before .before .before .before .before .before .args in
+    let o = find (c .before .before .before .before .before .wide2 .result) (chainAt (a .rows) (a .tables .now) (a .start) (a .part .second)) in
+    rw (
+      eq-eqb _ _ (sym (c .before .before .before .before .before .before .before .before .wide .ensures .0) ∙ c .before .before .before .before .before .before .before .if1 .left),
+      ne-eqb _ _ (c .before .before .before .before .before .before .if2 .left),
+      ← (c .before .before .before .before .before .wide2 .ensures .0),
+      found-at o _ (sym (c .before .before .before .before .find-arm .ensures) ∙ c .before .before .found .given .1),
+      c .head .ensures,
+    )
+
+pub receive-arm-spec : {M : Type 1} → statement M
+receive-arm-spec =
+    tie.close
+    (tie.spec
+    wide-requires
+    returns
+    returns-2
+    wide-requires-2
+    find-arm-requires
+    enum-told
+    enum-known-found
+    head-requires
+    returns-3
+    returns-4)
