@@ -38,7 +38,8 @@ fn main() {
     show(8, &t8, counts[7]);
     let t9 = marked::table9();
     show(9, &t9, counts[8]);
-    show(10, &t1, counts[9]);
+    let t10 = marked::table1();
+    show(10, &t10, counts[9]);
     let t11 = marked::table11();
     show(11, &t11, counts[10]);
     let t12 = marked::table12();
