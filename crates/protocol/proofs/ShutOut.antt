@@ -373,7 +373,7 @@ module _ {S : Type 0} {may : Call → Type 0} (m : may says) (e : Engine S) (c :
 
 -- document 01's limits, but queues of one message
 abbrev pub shallow : Limits
-shallow = record { roles = 8; rows = 256; labels = 64; depth = 1 }
+shallow = record { roles = base .roles; rows = base .rows; labels = base .labels; depth = 1 }
 
 abbrev room5 : List ℕ
 room5 = replicate 72 0

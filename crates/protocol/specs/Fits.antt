@@ -3,6 +3,7 @@ use Prim.Native.Nat.{ℕ, _*_, _^_, _<_}
 use mathlib.Core.List.{List}
 use mathlib.Core.Path.{_≡_}
 use lib.ListN.{length}
+use Rattle.table.specs.Limits.{base}
 use Rattle.session.specs.declared.Session.{Session}
 use Rattle.protocol.specs.Each.{Each}
 use Rattle.protocol.specs.Engine.{Call, sends, receives}
@@ -25,9 +26,9 @@ pub data Fits : Call → Type 0 where
   fits-send : {p q l v : ℕ} → Size p → Size q → Size l → v < 2 ^ 32 → Fits (sends p q l v)
   fits-receive : {p q : ℕ} → Size p → Size q → Fits (receives p q)
 
--- [u16; 8], [u8; 64], [u8; 256], [u32; 256]
+-- [u16; ROLES], [u8; PAIRS], [u8; SLOTS], [u32; SLOTS]
 pub record FitsSession (s : Session) : Type 0 where
-  pub heads : (length (s .heads) ≡ 8) × Bits 16 (s .heads)
-  pub counts : (length (s .counts) ≡ 64) × Bits 8 (s .counts)
-  pub labels : (length (s .labels) ≡ 256) × Bits 8 (s .labels)
-  pub payloads : (length (s .payloads) ≡ 256) × Bits 32 (s .payloads)
+  pub heads : (length (s .heads) ≡ base .roles) × Bits 16 (s .heads)
+  pub counts : (length (s .counts) ≡ base .roles * base .roles) × Bits 8 (s .counts)
+  pub labels : (length (s .labels) ≡ base .roles * base .roles * base .depth) × Bits 8 (s .labels)
+  pub payloads : (length (s .payloads) ≡ base .roles * base .roles * base .depth) × Bits 32 (s .payloads)

@@ -1,5 +1,5 @@
 -- Calls that fit keep a session's columns within the code's types; and the blocks that an opening writes are words. Assumes nothing.
-use Prim.Native.Nat.{ℕ, zero, suc, _+_, _-_, _^_, _≤_, _<_}
+use Prim.Native.Nat.{ℕ, _*_, zero, suc, _+_, _-_, _^_, _≤_, _<_}
 use mathlib.Core.Bool.{Bool, true, _&&_}
 use mathlib.Core.List.{List, [], _∷_, _++_}
 use mathlib.Core.Path.{_≡_}
@@ -91,7 +91,7 @@ pub record Small (s : Session) : Type 0 where
   pub labels : Bits 8 (s .labels)
   pub payloads : Bits 32 (s .payloads)
 
-sent-small : {s : Session} (p q l v x : ℕ) → held base s p q < 4 → l < 64 → v < 2 ^ 32 → Small s → Small (moved (pushed base s p q l v) p x)
+sent-small : {s : Session} (p q l v x : ℕ) → held base s p q < base .depth → l < base .labels → v < 2 ^ 32 → Small s → Small (moved (pushed base s p q l v) p x)
 sent-small p q l v x room low fits k = record {
   counts = each-set _ _ (omega arith) (k .counts);
   labels = each-set _ _ (omega arith) (k .labels);
@@ -103,8 +103,8 @@ taken-small {s} p q x k =
     let small : held base s p q < 2 ^ 8 = each-at _ 0 (omega arith) (k .counts) in
     record {
       counts = each-set _ _ (omega arith) (k .counts);
-      labels = each-sets (slot base p q 0) _ (zero-fits 8 (omega arith) (each-take 4 (each-drop (slot base p q 0) (k .labels)))) (k .labels);
-      payloads = each-sets (slot base p q 0) _ (zero-fits 32 (omega arith) (each-take 4 (each-drop (slot base p q 0) (k .payloads)))) (k .payloads);
+      labels = each-sets (slot base p q 0) _ (zero-fits 8 (omega arith) (each-take (base .depth) (each-drop (slot base p q 0) (k .labels)))) (k .labels);
+      payloads = each-sets (slot base p q 0) _ (zero-fits 32 (omega arith) (each-take (base .depth) (each-drop (slot base p q 0) (k .payloads)))) (k .payloads);
     }
 
 module _ (ts : List ℕ) (roles : ℕ) (ground : Ground base ts roles) (s : Session) (G : Global ℕ) (inv : Inv base ts roles s G) where
@@ -122,7 +122,7 @@ module _ (ts : List ℕ) (roles : ℕ) (ground : Ground base ts roles) (s : Sess
   small-after (sends p q l v) (fits-send _ _ _ h) k = sent-fits h k (the-send base ts roles ground s G inv p q l v)
   small-after (receives p q) _ k = received-fits k (the-receive base ts roles ground s G inv p q)
 
-  pub session-fits : blockRows ts roles ≤ 256 → Small s → FitsSession s
+  pub session-fits : blockRows ts roles ≤ base .rows → Small s → FitsSession s
   session-fits few k = record {
     heads = (inv .kept .heads-sized, at-each (s .heads) 0 (λ i h. head-fits i h (decLt i roles)));
     counts = (inv .kept .counts-sized, k .counts);
@@ -136,9 +136,9 @@ module _ (ts : List ℕ) (roles : ℕ) (ground : Ground base ts roles) (s : Sess
 
 pub small-nothing : Small (nothing base)
 small-nothing = record {
-  counts = each-replicate 64 0 (omega arith);
-  labels = each-replicate 256 0 (omega arith);
-  payloads = each-replicate 256 0 (omega arith);
+  counts = each-replicate (base .roles * base .roles) 0 (omega arith);
+  labels = each-replicate (base .roles * base .roles * base .depth) 0 (omega arith);
+  payloads = each-replicate (base .roles * base .roles * base .depth) 0 (omega arith);
 }
 
 -- ---- the words of a part's rows
@@ -149,8 +149,8 @@ four-fit a b c d h i j k = each-cons h (each-cons i (each-cons j (each-cons k ea
 mutual
   unfolding layout size nextArm
 
-  layout-fits : {roles labels r d : ℕ} {P : Part} (i : ℕ) (around : List ℕ) → roles ≤ 8 → labels ≤ 64 → Sound roles labels r d P
-      → Bits 16 around → i + size P ≤ 256 → Bits 16 (layout i around P)
+  layout-fits : {roles labels r d : ℕ} {P : Part} (i : ℕ) (around : List ℕ) → roles ≤ base .roles → labels ≤ base .labels → Sound roles labels r d P
+      → Bits 16 around → i + size P ≤ base .rows → Bits 16 (layout i around P)
   layout-fits i around few low s-end f h = four-fit 0 0 0 0 (omega arith) (omega arith) (omega arith) (omega arith)
   layout-fits i around few low (s-send {ps = ps} q n sm t) f h =
       each-append (four-fit 5 _ (suc i) 0 (omega arith) (omega arith) (omega arith) (omega arith)) (layoutArms-fits (suc i) around few low t f (omega arith))
@@ -162,18 +162,18 @@ mutual
   layout-fits i around few low (s-back {k = k} b) f h =
       four-fit 4 (getD around k 0) 0 0 (omega arith) (each-at k 0 (omega arith) f) (omega arith) (omega arith)
 
-  layoutArms-fits : {roles labels r d : ℕ} {ps : PartArms} (i : ℕ) (around : List ℕ) → roles ≤ 8 → labels ≤ 64 → SoundArms roles labels r d ps
-      → Bits 16 around → i + sizeArms ps ≤ 256 → Bits 16 (layoutArms i around ps)
+  layoutArms-fits : {roles labels r d : ℕ} {ps : PartArms} (i : ℕ) (around : List ℕ) → roles ≤ base .roles → labels ≤ base .labels → SoundArms roles labels r d ps
+      → Bits 16 around → i + sizeArms ps ≤ base .rows → Bits 16 (layoutArms i around ps)
   layoutArms-fits i around few low s-nil f h = each-nil
   layoutArms-fits i around few low (s-arm {l = l} {P = P} {ps = ps} k a t ts) f h =
       each-append (each-append (four-fit 2 l (suc i) (nextArm (suc i + size P) ps) (omega arith) (omega arith) (omega arith) (next ps h))
       (layout-fits (suc i) around few low t f (omega arith))) (layoutArms-fits (suc i + size P) around few low ts f (omega arith))
     where
-      next : (qs : PartArms) → i + suc (size P + sizeArms qs) ≤ 256 → nextArm (suc i + size P) qs < 2 ^ 16
+      next : (qs : PartArms) → i + suc (size P + sizeArms qs) ≤ base .rows → nextArm (suc i + size P) qs < 2 ^ 16
       next p-nil h = omega arith
       next (p-arm l P′ qs) h = omega arith
 
-block-fits : {roles labels r d : ℕ} (n : ℕ) {P : Part} → roles ≤ 8 → labels ≤ 64 → Sound roles labels r d P → size P ≤ 256 → Bits 16 (block n P)
+block-fits : {roles labels r d : ℕ} (n : ℕ) {P : Part} → roles ≤ base .roles → labels ≤ base .labels → Sound roles labels r d P → size P ≤ base .rows → Bits 16 (block n P)
 unfolding block
 block-fits n {P} few low t h =
     each-append (layout-fits 0 [] few low t each-nil (omega arith)) (each-replicate (n - length (layout 0 [] P)) 0 (omega arith))
@@ -184,16 +184,16 @@ module _ (t : List ℕ) (roles : ℕ) (o : Opened base t roles) (kept : TreeKept
   first-blocks zero h = each-nil
   first-blocks (suc n) h =
       let (P, e) = o .parts n h in
-      let size-is : size P ≤ 256 = omega (arith, part-fits base t roles o kept n P e, o .few-rows) in
+      let size-is : size P ≤ base .rows = omega (arith, part-fits base t roles o kept n P e, o .few-rows) in
       each-append (first-blocks n (omega arith)) (rw e (
       block-fits (length t) (o .few-roles) (omega arith) (part-sound base t roles o kept n P e) size-is))
 
   -- the blocks fit, and each has few rows
   pub blocks-words : Words (blocks t roles)
   blocks-words = record {
-    sized = omega (arith, length-tables base t roles o kept, mul-le-mul-right {m = roles} {n = 8} (length t) (o .few-roles), o .whole, o .few-rows);
+    sized = omega (arith, length-tables base t roles o kept, mul-le-mul-right {m = roles} {n = base .roles} (length t) (o .few-roles), o .whole, o .few-rows);
     small = first-blocks roles (omega arith);
   }
 
-  pub few-block-rows : blockRows (blocks t roles) roles ≤ 256
+  pub few-block-rows : blockRows (blocks t roles) roles ≤ base .rows
   few-block-rows = omega (arith, block-rows base t roles o kept, o .few-rows)
