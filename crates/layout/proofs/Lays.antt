@@ -11,7 +11,7 @@ use lib.ListN.{getD, set}
 use borrow.Author.Tests.{lt-ltb, le-ltb, eq-eqb, ne-eqb, eqb-false, ltb-true, leb-true}
 use Rattle.words.proofs.Below.{and-both}
 use Rattle.words.specs.Rows.{word, putRow}
-use Rattle.layout.specs.mirror.Lay.{LIMIT, inside, Inside, stepAt, loopRow, nextRow, openArm, closeArm, resume, putLoop, putLast, lastRow, putAction, Lay, turnBody, runS, endS, clearS, layOut}
+use Rattle.layout.specs.mirror.Lay.{LIMIT, inside, InRange, stepAt, loopRow, nextRow, openArm, closeArm, resume, putLoop, putLast, lastRow, putAction, Lay, turnBody, runS, endS, clearS, layOut}
 use Rattle.layout.specs.declared.Laid.{Laid}
 use Rattle.layout.specs.declared.Resumed.{Resumed}
 
@@ -33,7 +33,7 @@ module _ (n i from row depth : ℕ) (b : Bool) (eb : b ≡ inside n i from row d
   within : b ≡ true → inside n i from row depth ≡ true
   within e = sym eb ∙ e
 
-  pub in-range : b ≡ true → Inside n i from row depth
+  pub in-range : b ≡ true → InRange n i from row depth
   in-range e =
       let (p, d) = and-both (((ltb 0 n && ltb i LIMIT) && leb from LIMIT) && ltb row LIMIT) (ltb depth LIMIT) (within e) in
       let (q, r) = and-both ((ltb 0 n && ltb i LIMIT) && leb from LIMIT) (ltb row LIMIT) p in

@@ -14,7 +14,7 @@ use Rattle.parts.specs.Part.{Part, p-end, p-send, p-receive, p-loop, p-back, Pa
 use Rattle.parts.specs.Layout.{size, sizeArms, four, nextArm, layout, layoutArms, block}
 use Rattle.parts.specs.mirror.Codes.{code, codes, codesArms}
 use Rattle.parts.specs.mirror.Stands.{Stands}
-use Rattle.layout.specs.mirror.Lay.{LIMIT, kindOf, argOf, inside, Inside, stepAt, loopRow, nextRow, Lay, runS, endS, clearS, layOut, Spacious}
+use Rattle.layout.specs.mirror.Lay.{LIMIT, kindOf, argOf, inside, InRange, stepAt, loopRow, nextRow, Lay, runS, endS, clearS, layOut, Spacious}
 use Rattle.layout.proofs.Lays.{run-at, next-arm, next-none}
 use Rattle.layout.proofs.Stores.{row-is, length-row, row-then, row-kept, row-again}
 use Rattle.parts.proofs.Lengths.{length-layout, size-pos}
@@ -58,17 +58,17 @@ kind-is s i k x h e = rw e (omega arith)
 arg-is : (s : List ℕ) (i k x : ℕ) → k < 8 → getD s i 0 ≡ code k x → argOf s i ≡ x
 arg-is s i k x h e = rw e (omega arith)
 
-inside-yes : (n i from row depth : ℕ) → Inside n i from row depth → inside n i from row depth ≡ true
+inside-yes : (n i from row depth : ℕ) → InRange n i from row depth → inside n i from row depth ≡ true
 inside-yes n i from row depth h =
     rw
     (lt-ltb 0 n (h .some-left), lt-ltb i LIMIT (h .code-in), le-leb from LIMIT (h .from-in), lt-ltb row LIMIT (h .row-in), lt-ltb depth LIMIT (h .depth-in))
 
-step-of : (n : ℕ) (s : List ℕ) (i from row depth k x : ℕ) → k < 6 → getD s i 0 ≡ code k x → Inside n i from row depth → k ≡ stepAt n s i from row depth
+step-of : (n : ℕ) (s : List ℕ) (i from row depth k x : ℕ) → k < 6 → getD s i 0 ≡ code k x → InRange n i from row depth → k ≡ stepAt n s i from row depth
 unfolding stepAt
 step-of n s i from row depth k x h e w =
     rw (inside-yes n i from row depth w, kind-is s i k x (omega arith) e, ne-eqb k 6 (λ z. omega arith))
 
-step-six : (n : ℕ) (s : List ℕ) (i from row depth x : ℕ) → getD s i 0 ≡ code 6 x → Inside n i from row depth → 5 ≡ stepAt n s i from row depth
+step-six : (n : ℕ) (s : List ℕ) (i from row depth x : ℕ) → getD s i 0 ≡ code 6 x → InRange n i from row depth → 5 ≡ stepAt n s i from row depth
 unfolding stepAt
 step-six n s i from row depth x e w = rw (inside-yes n i from row depth w, kind-is s i 6 x (omega arith) e)
 
@@ -130,7 +130,7 @@ module _ (s : List ℕ) (from : ℕ) where
       (row-then out (from + row) a b c d ((from + suc row) * 4) ws (omega arith) (omega arith)) (λ k l. refl) refl w
 
   -- a Send or a Receive, from its arms; k is its kind
-  acted : (k q : ℕ) (ps : PartArms) → k < 8 → ((n i row depth : ℕ) → getD s i 0 ≡ code k q → Inside n i from row depth → 5 ≡ stepAt n s i from row depth)
+  acted : (k q : ℕ) (ps : PartArms) → k < 8 → ((n i row depth : ℕ) → getD s i 0 ≡ code k q → InRange n i from row depth → 5 ≡ stepAt n s i from row depth)
       → Writes (codesArms ps) (sizeArms ps) (λ row around. layoutArms row around ps)
       → Writes (code k q ∷ codesArms ps) (suc (sizeArms ps)) (λ row around. four k q (suc row) 0 ++ layoutArms (suc row) around ps)
   acted k q ps lk step arms n n′ i out row loops depth wait around i′ row′ h f a ei er =

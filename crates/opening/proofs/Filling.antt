@@ -90,11 +90,11 @@ block-inside roles k n l = rw (← suc-mul k n) (mul-le-mul-right n l)
 -- ---- one part more
 
 -- the first row of a block is a small number
-pub first-row : {t words : List ℕ} {roles k : ℕ} → Complete t roles words → k < roles → k * rowsOf t ≤ 2048
+pub first-row : {t words : List ℕ} {roles k : ℕ} → Complete t roles words → k < roles → k * rowsOf t ≤ base .roles * base .rows
 first-row {t} {roles = roles} {k = k} complete l =
     let m = measured base t roles (obeys base t roles (complete .checked) .sizes) in
-    let low : k ≤ 8 = omega (arith, m .most) in
-    let h : k * rowsOf t ≤ 8 * 256 = mul-le-mul low (m .few) in
+    let low : k ≤ base .roles = omega (arith, m .most) in
+    let h : k * rowsOf t ≤ base .roles * base .rows = mul-le-mul low (m .few) in
     omega arith
 
 -- so far: the blocks, and the place behind the words of the parts that are laid out
@@ -108,13 +108,13 @@ unfolding partsWords
 laid-none t room = record { filled = filled-none t room; upto = refl; low = omega arith }
 
 module _ {t room₀ words room : List ℕ} (loops : List ℕ) {next : List ℕ} {roles k code code′ : ℕ} (complete : Complete t roles words) (fits : roles * length t ≤ length room₀) (l : k < roles)
-    (same : length room ≡ length room₀) (many : length loops ≡ 256) (laid : Laid t room₀ room k code)
+    (same : length room ≡ length room₀) (many : length loops ≡ base .rows) (laid : Laid t room₀ room k code)
     (ends : code′ ≡ layOut words code room (k * rowsOf t) (rowsOf t) loops .res .code) (leaves : next ≡ layOut words code room (k * rowsOf t) (rowsOf t) loops .out) where
   -- the sizes that the check leaves
-  few : rowsOf t ≤ 256
+  few : rowsOf t ≤ base .rows
   few = measured base t roles (obeys base t roles (complete .checked) .sizes) .few
 
-  most : roles ≤ 8
+  most : roles ≤ base .roles
   most = measured base t roles (obeys base t roles (complete .checked) .sizes) .most
 
   whole : length t ≡ rowsOf t * 4
@@ -141,10 +141,10 @@ module _ {t room₀ words room : List ℕ} (loops : List ℕ) {next : List ℕ} 
 
     can-lay : Spacious P words code room (k * rowsOf t) (rowsOf t) loops
     can-lay =
-        let low : k ≤ 8 = omega (arith, most) in
-        let twice : rowsOf t * 2 ≤ 512 = omega (arith, few) in
+        let low : k ≤ base .roles = omega (arith, most) in
+        let twice : rowsOf t * 2 ≤ base .rows * 2 = omega (arith, few) in
         let k-few = first-row complete l in
-        let k-words : k * (rowsOf t * 2) ≤ 8 * 512 = mul-le-mul low twice in
+        let k-words : k * (rowsOf t * 2) ≤ base .roles * (base .rows * 2) = mul-le-mul low twice in
         record {
           stands = stands;
           rows-fit = rows;

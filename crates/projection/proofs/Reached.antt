@@ -37,11 +37,11 @@ ArmsReach cs r = Reaches (λ k. takesPartArms k cs) (λ d. leavesArms d cs) r
 
 pub reach-end : TreeReach end nothing
 unfolding takesPart leaves
-reach-end = record { set = sym (set-none 8); far = λ d. sym (le-ltb d 0 (omega arith)) }
+reach-end = record { set = sym (set-none (base .roles)); far = λ d. sym (le-ltb d 0 (omega arith)) }
 
 pub reach-nil : ArmsReach nil nothing
 unfolding takesPart leaves
-reach-nil = record { set = sym (set-none 8); far = λ d. sym (le-ltb d 0 (omega arith)) }
+reach-nil = record { set = sym (set-none (base .roles)); far = λ d. sym (le-ltb d 0 (omega arith)) }
 
 leb-next : (d k : ℕ) → leb d k ≡ ltb d (k + 1)
 leb-next d k = go (ltb d (k + 1)) refl
@@ -52,7 +52,7 @@ leb-next d k = go (ltb d (k + 1)) refl
 
 pub reach-back : (k : ℕ) → TreeReach (back k) (record { roles = 0; out = k + 1 })
 unfolding takesPart leaves
-reach-back k = record { set = sym (set-none 8); far = λ d. leb-next d k }
+reach-back k = record { set = sym (set-none (base .roles)); far = λ d. leb-next d k }
 
 ltb-less : (d o : ℕ) → ltb (suc d) o ≡ ltb d (o - 1)
 ltb-less d o = go (ltb d (o - 1)) refl
@@ -66,10 +66,10 @@ unfolding takesPart leaves
 reach-loop B r o h e = record { set = h .set; far = λ d. rw e (h .far (suc d) ∙ ltb-less d (r .out)) }
 
 -- two sets together
-join-set : (p q : ℕ → Bool) (a b : ℕ) → a ≡ setOf p 8 → b ≡ setOf q 8 → bitOr a b ≡ setOf (λ k. p k || q k) 8
+join-set : (p q : ℕ → Bool) (a b : ℕ) → a ≡ setOf p (base .roles) → b ≡ setOf q (base .roles) → bitOr a b ≡ setOf (λ k. p k || q k) (base .roles)
 join-set p q a b ea eb = ap₂ bitOr ea eb ∙ set-or p q 8
 
-pub reach-exchange : (s q : ℕ) (cs : Arms ℕ) (r : Reach) (a b : ℕ) → ArmsReach cs r → a ≡ setOf (λ k. eqb k s) 8 → b ≡ setOf (λ k. eqb k q) 8
+pub reach-exchange : (s q : ℕ) (cs : Arms ℕ) (r : Reach) (a b : ℕ) → ArmsReach cs r → a ≡ setOf (λ k. eqb k s) (base .roles) → b ≡ setOf (λ k. eqb k q) (base .roles)
     → TreeReach (exchange s q cs) (record { roles = bitOr (bitOr a b) (r .roles); out = r .out })
 unfolding takesPart leaves
 reach-exchange s q cs r a b h ea eb = record {
@@ -156,10 +156,10 @@ module _ (t : List ℕ) (n : ℕ) (o : Obeys base t n) (at : ℕ → Reach) (i :
 
 -- ---- the roles that stay in a Loop
 
-pub loop-stay : (B : Global ℕ) (r : Reach) → TreeReach (loop B) r → stayOf (r .roles) (r .out) ≡ setOf (λ k. takesPart k B || leaves 1 B) 8
+pub loop-stay : (B : Global ℕ) (r : Reach) → TreeReach (loop B) r → stayOf (r .roles) (r .out) ≡ setOf (λ k. takesPart k B || leaves 1 B) (base .roles)
 unfolding takesPart leaves
 loop-stay B r h = rw (h .far 0) (go (ltb 0 (r .out)))
   where
-    go : (b : Bool) → cond b (setOf (λ k. true) 8) (r .roles) ≡ setOf (λ k. takesPart k B || b) 8
+    go : (b : Bool) → cond b (setOf (λ k. true) 8) (r .roles) ≡ setOf (λ k. takesPart k B || b) (base .roles)
     go true = simp or-true
     go false = simp or-false (h .set)

@@ -14,7 +14,7 @@ use Rattle.parts.specs.Projection.{part, partExchange}
 use Rattle.parts.specs.mirror.Codes.{codes}
 use Rattle.parts.specs.mirror.Grows.{Grows, grows-end, grows-exchange, grows-loop, grows-back, Chain, ordered}
 use Rattle.projection.specs.mirror.Orders.{Listed}
-use Rattle.projection.specs.mirror.Projects.{SMALL, Small, s-exchange, s-back, PlannedBy, Known, Planned}
+use Rattle.projection.specs.mirror.Projects.{SMALL, Coded, s-exchange, s-back, PlannedBy, Known, Planned}
 
 -- ---- one kind of row
 
@@ -29,8 +29,8 @@ module _ (r : ℕ) (t order : List ℕ) where
     idle-plan e = (p-end, rw (← is, e), refl)
 
   -- an exchange from p to q; w is the word that the code made of the peer
-  module _ (p q : ℕ) (cs : Arms ℕ) (small : Small (exchange p q cs)) where
-    peers : Small (exchange p q cs) → (p < SMALL) × (q < SMALL)
+  module _ (p q : ℕ) (cs : Arms ℕ) (small : Coded (exchange p q cs)) where
+    peers : Coded (exchange p q cs) → (p < SMALL) × (q < SMALL)
     peers (s-exchange i j m) = (omega arith, omega arith)
 
     pub send-plan : {w next : ℕ} → r ≡ p → (q < SMALL → w ≡ 5 + q * 8) → Listed t order next (ordered cs) → PlannedBy 2 r t order (exchange p q cs) w next
@@ -50,11 +50,11 @@ module _ (r : ℕ) (t order : List ℕ) where
 
 module _ {r : ℕ} {t kept order : List ℕ} {i k : ℕ} (ek : k ≡ word t i 0) where
   pub at-exchange : k ≡ 1 → {p q f least : ℕ} → p ≡ word t i 1 → q ≡ word t i 2 → f ≡ word t i 3 → least ≡ getD order i 0 → {x w next : ℕ}
-      → ((cs : Arms ℕ) → Small (exchange p q cs) → Listed t order least (ordered cs) → Chain t f cs → PlannedBy x r t order (exchange p q cs) w next)
+      → ((cs : Arms ℕ) → Coded (exchange p q cs) → Listed t order least (ordered cs) → Chain t f cs → PlannedBy x r t order (exchange p q cs) w next)
       → Planned x r t kept order i w next
   at-exchange e {p} {q} {f} {least} ep eq ef el {x} {w} {next} h = record { says = go }
     where
-      go : (G : Global ℕ) → Known r t kept order → Grows t i G → Small G → PlannedBy x r t order G w next
+      go : (G : Global ℕ) → Known r t kept order → Grows t i G → Coded G → PlannedBy x r t order G w next
       go G o (grows-end l z) m = absurd (omega arith)
       go G o (grows-exchange {f = g} {cs = cs} l z a b c d) m = rw (← a, ← b, ← ep, ← eq) (h cs (rw (ep ∙ a, eq ∙ b) m) (rw el (o .orders .orders i g cs l z c d)) (rw (ef ∙ c) d))
       go G o (grows-loop l z a d) m = absurd (omega arith)
@@ -64,7 +64,7 @@ module _ {r : ℕ} {t kept order : List ℕ} {i k : ℕ} (ek : k ≡ word t i 0)
       → ((B : Global ℕ) → Known r t kept order → Grows t i (loop B) → Grows t b B → PlannedBy x r t order (loop B) w next) → Planned x r t kept order i w next
   at-loop e {b} eb {x} {w} {next} h = record { says = go }
     where
-      go : (G : Global ℕ) → Known r t kept order → Grows t i G → Small G → PlannedBy x r t order G w next
+      go : (G : Global ℕ) → Known r t kept order → Grows t i G → Coded G → PlannedBy x r t order G w next
       go G o (grows-end l z) m = absurd (omega arith)
       go G o (grows-exchange l z a c d f) m = absurd (omega arith)
       go G o (grows-loop {G = B} l z a d) m = h B o (grows-loop l z a d) (rw (eb ∙ a) d)
@@ -74,10 +74,10 @@ module _ {r : ℕ} {t kept order : List ℕ} {i k : ℕ} (ek : k ≡ word t i 0)
   unfolding part codes
   at-back e {d} {w} ed h = record { says = go }
     where
-      depth : {x : ℕ} → Small {A = ℕ} (back x) → x < SMALL
+      depth : {x : ℕ} → Coded {A = ℕ} (back x) → x < SMALL
       depth (s-back l) = l
 
-      go : (G : Global ℕ) → Known r t kept order → Grows t i G → Small G → PlannedBy 0 r t order G w 0
+      go : (G : Global ℕ) → Known r t kept order → Grows t i G → Coded G → PlannedBy 0 r t order G w 0
       go G o (grows-end l z) m = absurd (omega arith)
       go G o (grows-exchange l z a b c f) m = absurd (omega arith)
       go G o (grows-loop l z a f) m = absurd (omega arith)
@@ -87,7 +87,7 @@ module _ {r : ℕ} {t kept order : List ℕ} {i k : ℕ} (ek : k ≡ word t i 0)
   unfolding part codes
   at-end n1 n3 n4 = record { says = go }
     where
-      go : (G : Global ℕ) → Known r t kept order → Grows t i G → Small G → PlannedBy 0 r t order G 0 0
+      go : (G : Global ℕ) → Known r t kept order → Grows t i G → Coded G → PlannedBy 0 r t order G 0 0
       go G o (grows-end l z) m = (p-end, refl, refl)
       go G o (grows-exchange l z a b c f) m = absurd (n1 (ek ∙ z))
       go G o (grows-loop l z a f) m = absurd (n3 (ek ∙ z))

@@ -25,7 +25,7 @@ use Rattle.parts.proofs.Sizes.{words-twice, merge-size}
 use Rattle.parts.proofs.Laws.{part-size, part-rising}
 use Rattle.projection.specs.mirror.Orders.{Listed, listed-none, listed-arm}
 use Rattle.merge.specs.declared.Joined.{Joined}
-use Rattle.projection.specs.mirror.Projects.{SMALL, Small, s-exchange, SmallArms, s-nil, s-arm, Plain, plain-nil, plain-arm, Stack, Space, Pushed, Outcome, fails, puts, PlannedBy, Known, ArmRead, Chooses, Projects, Owns, Behind, behind-none, behind-some, Folds}
+use Rattle.projection.specs.mirror.Projects.{SMALL, Coded, s-exchange, CodedArms, s-nil, s-arm, Plain, plain-nil, plain-arm, Stack, Space, Pushed, Outcome, fails, puts, PlannedBy, Known, ArmRead, Chooses, Projects, Owns, Behind, behind-none, behind-some, Folds}
 use Rattle.projection.specs.declared.Projected.{Projected}
 use Rattle.projection.specs.declared.Arm.{Arm}
 use Rattle.projection.proofs.Join.{Joins}
@@ -111,7 +111,7 @@ no-links spare e = record { gives = λ G s o by f g m k sp. absurd (omega (arith
 
 -- ---- the arms of an action of the role's own, in rising order
 
-place-plain : {l : ℕ} {G : Global ℕ} {cs : Arms ℕ} → l < SMALL → Good G → Small G → Plain cs → Plain (place l G cs)
+place-plain : {l : ℕ} {G : Global ℕ} {cs : Arms ℕ} → l < SMALL → Good G → Coded G → Plain cs → Plain (place l G cs)
 unfolding place
 place-plain h g m plain-nil = plain-arm h g m plain-nil
 place-plain {l} {G} h g m (plain-arm {l = k} {G = H} {cs = cs} i f n ps) = go (leb l k) (place-plain h g m ps)
@@ -120,7 +120,7 @@ place-plain {l} {G} h g m (plain-arm {l = k} {G = H} {cs = cs} i f n ps) = go (l
     go true q = plain-arm h g m (plain-arm i f n ps)
     go false q = plain-arm i f n q
 
-pub ordered-plain : {cs : Arms ℕ} → GoodArms cs → SmallArms cs → Plain (ordered cs)
+pub ordered-plain : {cs : Arms ℕ} → GoodArms cs → CodedArms cs → Plain (ordered cs)
 unfolding ordered
 ordered-plain g-nil s-nil = plain-nil
 ordered-plain (g-arm d g gs) (s-arm x m ms) = place-plain x g m (ordered-plain gs ms)
@@ -136,7 +136,7 @@ outcome-ordered (some ps) (puts h k) = puts {x = ps} h k
 arms-step : {r p q : ℕ} {t kept order : List ℕ} {less i : ℕ} {cs : Arms ℕ} (act : PartArms → Part) {work work′ work″ spare : List ℕ} {at w e : ℕ} {a : Projected}
     → ((ps : PartArms) → partExchange r p q ps ≡ some (act (rising ps))) → ((ps : PartArms) → codes (act ps) ≡ w ∷ codesArms ps)
     → Pushed work at w work′ e → length work′ ≡ length work → Owns r t kept order less i work′ e spare work″ a → Known r t kept order
-    → Listed t order i (ordered cs) → (s : List ℕ) → rowsIn (exchange p q cs) ≤ suc less → Good (exchange p q cs) → Small (exchange p q cs) → Stack work at s
+    → Listed t order i (ordered cs) → (s : List ℕ) → rowsIn (exchange p q cs) ≤ suc less → Good (exchange p q cs) → Coded (exchange p q cs) → Stack work at s
     → Space (rowsIn (exchange p q cs) * 2) at work spare → Outcome codes s work″ a (part r (exchange p q cs))
 unfolding part rowsIn
 arms-step {r} {p} {q} {cs = cs} act {w = w} ex is push len rec o h s f (g-exchange n d g) (s-exchange i j m) k sp =
@@ -153,7 +153,7 @@ pub action-step : {r : ℕ} {t kept order : List ℕ} {left less : ℕ} {work wo
 action-step {r} {less = less} {work = work} {work″ = work″} {spare} {at} {a = a} el push len rec = record {
   gives = λ G s o by f g m.
       let (p, q, cs, act, is, arms, ex, words) = by in
-      subst (λ (X : Global ℕ). rowsIn X ≤ suc less → Good X → Small X → Stack work at s → Space (rowsIn X * 2) at work spare → Outcome codes s work″ a (part r X)) (sym is)
+      subst (λ (X : Global ℕ). rowsIn X ≤ suc less → Good X → Coded X → Stack work at s → Space (rowsIn X * 2) at work spare → Outcome codes s work″ a (part r X)) (sym is)
       (arms-step act ex words push len rec o arms s) (rw el at f) g m;
 }
 
@@ -241,7 +241,7 @@ first-step : {r p q l : ℕ} {t kept order : List ℕ} {less c n : ℕ} {G : Glo
     → ((ps : PartArms) → partExchange r p q ps ≡ mergeAll ps) → length work′ ≡ length work → length spare′ ≡ length spare
     → Projects r t kept order less c work at spare work′ a → Folds r t kept order less n work′ at (a .at) spare′ work″ b
     → Known r t kept order → Grows t c G → Behind t n cs → (s : List ℕ) → rowsIn (exchange p q (arm l G cs)) ≤ suc less
-    → Good (exchange p q (arm l G cs)) → Small (exchange p q (arm l G cs)) → Stack work at s
+    → Good (exchange p q (arm l G cs)) → Coded (exchange p q (arm l G cs)) → Stack work at s
     → Space (rowsIn (exchange p q (arm l G cs)) * 2) at work spare → Outcome codes s work″ (also (a .ok) b) (part r (exchange p q (arm l G cs)))
 unfolding part rowsIn
 first-step {r} {l = l} {G = G} {cs} {b = b} ex len len′ one rest o h j s f (g-exchange n d (g-arm e g gs)) (s-exchange x y (s-arm z m ms)) k sp =
@@ -258,7 +258,7 @@ others-step {k} {r} {t} {kept} {order} {less = less} {work = work} {work″ = wo
   gives = λ G s o by f g m.
       let (p, q, cs, is, chain, ex) = others r t order G w next k l by in
       let (x, H, ds, e, grows, behind) = first-arm chain in
-      subst (λ (X : Global ℕ). rowsIn X ≤ suc less → Good X → Small X → Stack work at s → Space (rowsIn X * 2) at work spare → Outcome codes s work″ (also (a .ok) b) (part r X))
+      subst (λ (X : Global ℕ). rowsIn X ≤ suc less → Good X → Coded X → Stack work at s → Space (rowsIn X * 2) at work spare → Outcome codes s work″ (also (a .ok) b) (part r X))
       (ap (λ (z : Arms ℕ). exchange p q z) (sym e) ∙ sym is)
       (first-step {p = p} {q = q} {l = x} ex len len′ one rest o (rw (read .cont-is) grows) (rw (read .next-is) behind) s) (rw el at f) g m;
 }
@@ -275,7 +275,7 @@ fold-end {r} {t} {kept} {order} {i} {left} {work} spare {at} {e} stop = record {
     some-rows (chain-more h w0 w1 w2 w3 m g c) = omega arith
 
     go : (i : ℕ) → (eqb i 0 || eqb left 0) ≡ true → (cs : Arms ℕ) (s : List ℕ) (P : Part) → Known r t kept order → Behind t i cs → rowsInArms cs ≤ left → GoodArms cs
-        → SmallArms cs → Rising P → at ≡ length s → Stack work e (s ++ codes P) → Space ((size P + rowsInArms cs) * 2) at work spare
+        → CodedArms cs → Rising P → at ≡ length s → Stack work e (s ++ codes P) → Space ((size P + rowsInArms cs) * 2) at work spare
         → Outcome codes s work (record { ok = true; at = e }) (bind (partArms r cs) (λ ps. mergeFrom P ps))
     go i z cs s P o behind-none f g m u x k sp = puts {x = P} refl k
     go i z cs s P o (behind-some h c) f g m u x k sp =
@@ -296,7 +296,7 @@ fold-arm : {r l : ℕ} {t kept order : List ℕ} {less c n : ℕ} {G : Global �
     {one : Projected} {both : Joined} {rest : Projected}
     → Projects r t kept order less c work₀ e spare₀ work₁ one → Joins work₁ spare₁ at e work₂ both → Folds r t kept order less n work₂ at (both .at) spare₂ work₃ rest
     → length work₁ ≡ length work₀ → length work₂ ≡ length work₀ → length spare₁ ≡ length spare₀ → length spare₂ ≡ length spare₀
-    → Known r t kept order → Grows t c G → Behind t n cs → (s : List ℕ) (P : Part) → rowsInArms (arm l G cs) ≤ suc less → GoodArms (arm l G cs) → SmallArms (arm l G cs)
+    → Known r t kept order → Grows t c G → Behind t n cs → (s : List ℕ) (P : Part) → rowsInArms (arm l G cs) ≤ suc less → GoodArms (arm l G cs) → CodedArms (arm l G cs)
     → Rising P → at ≡ length s → Stack work₀ e (s ++ codes P) → Space ((size P + rowsInArms (arm l G cs)) * 2) at work₀ spare₀
     → Outcome codes s work₃ (also (one .ok) (also (both .ok) rest)) (bind (partArms r (arm l G cs)) (λ ps. mergeFrom P ps))
 unfolding partArms rowsInArms
@@ -325,13 +325,13 @@ fold-step {r} {t} {kept} {order} {i} {left} {less} {work₀} {work₃ = work₃}
     record { gives = go i on is }
   where
     go : (i : ℕ) → (eqb i 0 || eqb left 0) ≡ false → ArmRead t i a → (cs : Arms ℕ) (s : List ℕ) (P : Part) → Known r t kept order → Behind t i cs
-        → rowsInArms cs ≤ left → GoodArms cs → SmallArms cs → Rising P → at ≡ length s → Stack work₀ e (s ++ codes P)
+        → rowsInArms cs ≤ left → GoodArms cs → CodedArms cs → Rising P → at ≡ length s → Stack work₀ e (s ++ codes P)
         → Space ((size P + rowsInArms cs) * 2) at work₀ spare₀
         → Outcome codes s work₃ (also (one .ok) (also (both .ok) rest)) (bind (partArms r cs) (λ ps. mergeFrom P ps))
     go i z read cs s P o behind-none f g m u x k sp = absurd (true≢false z)
     go i z read cs s P o (behind-some h c) f g m u x k sp =
         let (l, H, ds, e′, grows, behind) = first-arm c in
-        subst (λ (X : Arms ℕ). rowsInArms X ≤ suc less → GoodArms X → SmallArms X → Rising P → at ≡ length s → Stack work₀ e (s ++ codes P)
+        subst (λ (X : Arms ℕ). rowsInArms X ≤ suc less → GoodArms X → CodedArms X → Rising P → at ≡ length s → Stack work₀ e (s ++ codes P)
         → Space ((size P + rowsInArms X) * 2) at work₀ spare₀ → Outcome codes s work₃ (also (one .ok) (also (both .ok) rest)) (bind (partArms r X) (λ ps. mergeFrom P ps)))
         (sym e′) (fold-arm project join fold len₁ len₂ spare₁ spare₂ o (rw (read .cont-is) grows) (rw (read .next-is) behind) s P) (rw el at f) g m u x k sp
 

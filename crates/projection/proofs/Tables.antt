@@ -27,7 +27,7 @@ use Rattle.parts.proofs.Grown.{tree-grows}
 use Rattle.parts.proofs.Rising.{holds-some}
 use Rattle.parts.proofs.Laws.{part-size}
 use Rattle.parts.proofs.Sizes.{words-twice}
-use Rattle.projection.specs.mirror.Projects.{SMALL, Small, s-end, s-exchange, s-loop, s-back, SmallArms, s-nil, s-arm, Stack, Outcome, fails, puts, Projects, wordsOf, partsWords, Prepared}
+use Rattle.projection.specs.mirror.Projects.{SMALL, Coded, s-end, s-exchange, s-loop, s-back, CodedArms, s-nil, s-arm, Stack, Outcome, fails, puts, Projects, wordsOf, partsWords, Prepared}
 use Rattle.projection.specs.declared.Projected.{Projected}
 use Rattle.projection.proofs.Join.{between}
 use Rattle.projection.proofs.Steps.{restack}
@@ -37,14 +37,14 @@ use borrow.Author.Count.{below-none, below-more}
 mutual
   unfolding rowsIn rowsInArms
 
-  small-tree : {roles labels d : ℕ} {G : Global ℕ} → roles ≤ 8 → labels ≤ SMALL → Static G → Ranged roles labels G → Inside d G → d + rowsIn G ≤ SMALL → Small G
+  small-tree : {roles labels d : ℕ} {G : Global ℕ} → roles ≤ base .roles → labels ≤ SMALL → Static G → Ranged roles labels G → Inside d G → d + rowsIn G ≤ SMALL → Coded G
   small-tree r l t-end r-end i-end f = s-end
   small-tree r l (t-exchange s) (r-exchange {p} {q} a b h) (i-exchange i) f =
       s-exchange {p = p} {q = q} (omega arith) (omega arith) (small-arms r l s h i (omega arith))
   small-tree r l (t-loop s) (r-loop h) (i-loop i) f = s-loop (small-tree r l s h i (omega arith))
   small-tree r l t-back r-back (i-back {k} b) f = s-back {k = k} (omega arith)
 
-  small-arms : {roles labels d : ℕ} {cs : Arms ℕ} → roles ≤ 8 → labels ≤ SMALL → StaticArms cs → RangedArms roles labels cs → InsideArms d cs → d + rowsInArms cs ≤ SMALL → SmallArms cs
+  small-arms : {roles labels d : ℕ} {cs : Arms ℕ} → roles ≤ base .roles → labels ≤ SMALL → StaticArms cs → RangedArms roles labels cs → InsideArms d cs → d + rowsInArms cs ≤ SMALL → CodedArms cs
   small-arms r l t-nil r-nil i-nil f = s-nil
   small-arms r m (t-arm s ss) (r-arm {l} k h hs) (i-arm i is) f =
       s-arm {l = l} (omega arith) (small-tree r m s h i (omega arith)) (small-arms r m ss hs is (omega arith))
@@ -53,9 +53,9 @@ mutual
 record Sound (t : List ℕ) (roles : ℕ) : Type 0 where
   grows : Grows t 0 (treeOf t)
   good : Good {A = ℕ} (treeOf t)
-  small : Small {A = ℕ} (treeOf t)
+  small : Coded {A = ℕ} (treeOf t)
   fits : rowsIn {A = ℕ} (treeOf t) ≤ rowsOf t
-  most : roles ≤ 8
+  most : roles ≤ base .roles
   few : rowsOf t ≤ base .rows
 
 sound : (t : List ℕ) (roles : ℕ) → checkOf base t roles ≡ accepted → Sound t roles

@@ -23,7 +23,7 @@ use Rattle.parts.proofs.Laws.{part-size}
 use Rattle.parts.proofs.Rising.{holds-some}
 use Rattle.parts.proofs.Sizes.{words-twice}
 use Rattle.projection.specs.mirror.Orders.{Listed, listed-none, listed-arm}
-use Rattle.projection.specs.mirror.Projects.{Small, s-exchange, s-loop, s-arm, Plain, plain-arm, Stack, Pushed, Outcome, fails, puts, SMALL, Known, Planned, ArmRead, leadsOn, marks, Wraps, wraps-none, wraps-some, Inside, Enters, Walks, Closed, Chooses, Projects}
+use Rattle.projection.specs.mirror.Projects.{Coded, s-exchange, s-loop, s-arm, Plain, plain-arm, Stack, Pushed, Outcome, fails, puts, SMALL, Known, Planned, ArmRead, leadsOn, marks, Wraps, wraps-none, wraps-some, Within, Enters, Walks, Closed, Chooses, Projects}
 use Rattle.projection.specs.declared.Arm.{Arm}
 use Rattle.projection.specs.declared.Projected.{Projected}
 use Rattle.projection.specs.declared.Step.{Step}
@@ -50,10 +50,10 @@ wraps-then : {ws vs : List ℕ} {n m : ℕ} {o p q : Option Part} → Wraps ws n
 wraps-then wraps-none wraps-none = wraps-none
 wraps-then {ws} {vs} {n} {m} (wraps-some f) (wraps-some {P = P} e) = wraps-some {P = P} (f ∙ rw e (regroup ws vs (codes P) n m))
 
-inside-start : (r : ℕ) {G : Global ℕ} {left : ℕ} → rowsIn G ≤ left → Good G → Small G → Inside r G left [] 0 G
+inside-start : (r : ℕ) {G : Global ℕ} {left : ℕ} → rowsIn G ≤ left → Good G → Coded G → Within r G left [] 0 G
 inside-start r f g m = record { good = g; small = m; wraps = wraps-same refl; rows = f; fits = omega arith }
 
-inside-on : {r : ℕ} {G H B : Global ℕ} {left less n m : ℕ} {ws vs : List ℕ} → Inside r G left ws n H → Inside r H less vs m B → Inside r G less (ws ++ vs) (n + m) B
+inside-on : {r : ℕ} {G H B : Global ℕ} {left less n m : ℕ} {ws vs : List ℕ} → Within r G left ws n H → Within r H less vs m B → Within r G less (ws ++ vs) (n + m) B
 inside-on {ws = ws} {vs} outer inner = record {
   good = inner .good;
   small = inner .small;
@@ -73,8 +73,8 @@ wraps-loop r B takes = rw takes (go (part r B))
     go none = wraps-none
     go (some P) = wraps-some (ap (λ (x : List ℕ). 3 ∷ x) (sym (append-nil (codes P))))
 
-inside-loop : {r left : ℕ} {B : Global ℕ} → (takesPart r B || leaves 1 B) ≡ true → rowsIn (loop B) ≤ suc left → Good (loop B) → Small (loop B)
-    → Inside r (loop B) left (code 3 0 ∷ []) 0 B
+inside-loop : {r left : ℕ} {B : Global ℕ} → (takesPart r B || leaves 1 B) ≡ true → rowsIn (loop B) ≤ suc left → Good (loop B) → Coded (loop B)
+    → Within r (loop B) left (code 3 0 ∷ []) 0 B
 unfolding rowsIn
 inside-loop {r} {B = B} takes f (g-loop g) (s-loop m) = record { good = g; small = m; wraps = wraps-loop r B takes; rows = omega arith; fits = omega arith }
 
@@ -89,7 +89,7 @@ enter-loop {work = work} {work′} {at} {e} push = record {
         code 3 0 ∷ [],
         grows,
         subst (λ (x : ℕ). Stack work′ e (s ++ x ∷ [])) word-is top,
-        subst (λ (X : Global ℕ). Inside r X left (code 3 0 ∷ []) 0 B) (sym is) (inside-loop takes (rw is at f) (rw is at g) (rw is at m)),
+        subst (λ (X : Global ℕ). Within r X left (code 3 0 ∷ []) 0 B) (sym is) (inside-loop takes (rw is at f) (rw is at g) (rw is at m)),
       );
 }
 
@@ -112,7 +112,7 @@ wraps-sole r p q l w cs B act ex is one =
 
 inside-sole : {r p q l w left : ℕ} {cs : Arms ℕ} {B : Global ℕ} (act : PartArms → Part) → ((ps : PartArms) → partExchange r p q ps ≡ some (act (rising ps)))
     → ((ps : PartArms) → codes (act ps) ≡ w ∷ codesArms ps) → ordered cs ≡ arm l B nil → Plain (arm l B nil) → rowsIn (exchange p q cs) ≤ suc left
-    → Inside r (exchange p q cs) left (w ∷ code 2 l ∷ []) 1 B
+    → Within r (exchange p q cs) left (w ∷ code 2 l ∷ []) 1 B
 unfolding rowsIn rowsInArms
 inside-sole {r} {p} {q} {l} {w} {cs = cs} {B} act ex is one (plain-arm h g m ps) f =
     let rows : rowsInArms (arm l B nil) ≡ rowsInArms cs = sym (ap rowsInArms one) ∙ ordered-rows cs in
@@ -143,11 +143,11 @@ enter-sole {t} {w} {next} {work} {work₁} {work₂} {at} {e₁} {e₂} a read p
         w ∷ code 2 l ∷ [],
         rw (read .cont-is) grows,
         put,
-        subst (λ (X : Global ℕ). Inside r X left (w ∷ code 2 l ∷ []) 1 B) (sym is) (inside-sole {p = p} {q = q} act ex words one plain (rw is at f)),
+        subst (λ (X : Global ℕ). Within r X left (w ∷ code 2 l ∷ []) 1 B) (sym is) (inside-sole {p = p} {q = q} act ex words one plain (rw is at f)),
       );
 }
   where
-    arms : {p q l : ℕ} {cs : Arms ℕ} {B : Global ℕ} → Good (exchange p q cs) → Small (exchange p q cs) → ordered cs ≡ arm l B nil → Plain (arm l B nil)
+    arms : {p q l : ℕ} {cs : Arms ℕ} {B : Global ℕ} → Good (exchange p q cs) → Coded (exchange p q cs) → ordered cs ≡ arm l B nil → Plain (arm l B nil)
     arms (g-exchange x y gs) (s-exchange u v ms) one = subst Plain one (ordered-plain gs ms)
 
     plain-label : {l : ℕ} {B : Global ℕ} → Plain (arm l B nil) → l < SMALL
@@ -171,8 +171,8 @@ sole-part r p q l G ex = go (part r G)
     go (some P) = ex (p-arm l P p-nil)
 
 inside-passed : {r p q i left : ℕ} {t : List ℕ} {cs : Arms ℕ} → Chain t i cs → word t i 3 ≡ 0 → ((ps : PartArms) → partExchange r p q ps ≡ mergeAll ps)
-    → rowsIn (exchange p q cs) ≤ suc left → Good (exchange p q cs) → Small (exchange p q cs)
-    → (B : Global ℕ) × Grows t (word t i 2) B × Inside r (exchange p q cs) left [] 0 B
+    → rowsIn (exchange p q cs) ≤ suc left → Good (exchange p q cs) → Coded (exchange p q cs)
+    → (B : Global ℕ) × Grows t (word t i 2) B × Within r (exchange p q cs) left [] 0 B
 unfolding rowsIn rowsInArms
 inside-passed {r} {p} {q} (chain-last {l = l} {G = B} a b c d e grows) last ex f (g-exchange x y (g-arm z good gs)) (s-exchange u v (s-arm j small ms)) =
     (B, rw d grows, record { good = good; small = small; wraps = wraps-same (sole-part r p q l B ex); rows = omega arith; fits = omega arith })
@@ -198,7 +198,7 @@ enter-passed {t} {k} {w} {next} {row} {work} {at} not-loop not-own row-is = reco
       let (p, q, cs, is, chain, ex) = others r t order G w next k l by in
       let last = eqb-true (word t next 3) 0 (leads-others t order next k l ∙ on) in
       let (B, grows, inside) = inside-passed {p = p} {q = q} chain last ex (rw is at f) (rw is at g) (rw is at m) in
-      (B, [], rw row-is grows, restack (sym (append-nil s)) stack, subst (λ (X : Global ℕ). Inside r X left [] 0 B) (sym is) inside);
+      (B, [], rw row-is grows, restack (sym (append-nil s)) stack, subst (λ (X : Global ℕ). Within r X left [] 0 B) (sym is) inside);
 }
 
 -- ---- the walk
@@ -207,8 +207,8 @@ enter-passed {t} {k} {w} {next} {row} {work} {at} not-loop not-own row-is = reco
 pub record Comes (r : ℕ) (t kept order : List ℕ) (left i : ℕ) (work₀ : List ℕ) (at : ℕ) (here : ℕ) (work : List ℕ) (top n more : ℕ) : Type 0 where
   pub long : length work ≡ length work₀
   pub within : n + more ≤ left
-  pub gives : (G : Global ℕ) (s : List ℕ) → Known r t kept order → Grows t i G → rowsIn G ≤ left → Good G → Small G → Stack work₀ at s
-      → at + rowsIn G * 2 ≤ length work₀ → (B : Global ℕ) × (ws : List ℕ) × Grows t here B × Stack work top (s ++ ws) × Inside r G more ws n B
+  pub gives : (G : Global ℕ) (s : List ℕ) → Known r t kept order → Grows t i G → rowsIn G ≤ left → Good G → Coded G → Stack work₀ at s
+      → at + rowsIn G * 2 ≤ length work₀ → (B : Global ℕ) × (ws : List ℕ) × Grows t here B × Stack work top (s ++ ws) × Within r G more ws n B
 
 pub comes-start : (r : ℕ) (t kept order : List ℕ) (left i : ℕ) (work : List ℕ) (at : ℕ) → Comes r t kept order left i work at i work at 0 left
 comes-start r t kept order left i work at = record {

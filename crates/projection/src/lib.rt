@@ -27,7 +27,7 @@ ghost use Rattle.table.specs.Tree.{Global, loop, Arms, exchange};
 ghost use Rattle.parts.specs.mirror.Grows.{Grows, Chain, ordered};
 ghost use Rattle.projection.specs.mirror.Keeps.{Keeps};
 ghost use Rattle.projection.specs.mirror.Orders.{Listed};
-ghost use Rattle.projection.specs.mirror.Projects.{SMALL, Small, Pushed, PlannedBy, Planned, leadsOn, wayTo, Enters, Walks, Closed, ArmRead, Chooses, Projects, Owns, Folds, Prepared, Parted, partsOf, Complete};
+ghost use Rattle.projection.specs.mirror.Projects.{SMALL, Coded, Pushed, PlannedBy, Planned, leadsOn, wayTo, Enters, Walks, Closed, ArmRead, Chooses, Projects, Owns, Folds, Prepared, Parted, partsOf, Complete};
 
 // Whether there is a part, and the height of the stack with it.
 pub struct Projected {
@@ -117,7 +117,7 @@ fn at_loop(kept: &[u16], row: usize, body: usize, role: usize) -> Plan
 
 // An Exchange: the role sends, receives, or stands by. `least`: the arm with the lowest label; `first`: the first of the chain.
 fn at_exchange(role: usize, sender: u16, receiver: u16, least: usize, first: usize) -> Plan
-    ensures { λ r. ⌜ ((t order : List ℕ) (cs : Arms ℕ) → Small (exchange sender receiver cs) → Listed t order least (ordered cs) → Chain t first cs
+    ensures { λ r. ⌜ ((t order : List ℕ) (cs : Arms ℕ) → Coded (exchange sender receiver cs) → Listed t order least (ordered cs) → Chain t first cs
         → PlannedBy (r .case) role t order (exchange sender receiver cs) (r .word) (r .next)) ⌝ }
 {
     if role == words::wide(sender) {

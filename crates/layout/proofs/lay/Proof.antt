@@ -5,7 +5,7 @@ use mathlib.Core.Path.{_≡_, refl}
 use native.Mathlib.Omega.{arith}
 use lib.ListN.{length}
 use borrow.Author.Needs.{needs}
-use Rattle.layout.specs.mirror.Lay.{LIMIT, Inside, runS}
+use Rattle.layout.specs.mirror.Lay.{LIMIT, InRange, runS}
 use Rattle.layout.proofs.Lays.{in-range, resume-left, lay-done, lay-last, lay-arm, lay-loop, lay-nothing, lay-action}
 use Rattle.layout.proofs.lay.Statement.{statement}
 use Rattle.layout.proofs.lay.Tie as tie
@@ -20,7 +20,7 @@ abbrev μ-loop : tie.MeasureT-loop
 
 -- the numbers of a turn are in their range
 turn-in : (c : tie.Then1 Inv-loop μ-loop)
-    → Inside (c .before .before .loop .left) (c .before .before .loop .code) (c .before .before .before .before .before .before .args .from) (c .before .before .loop .row) (c .before .before .loop .depth)
+    → InRange (c .before .before .loop .left) (c .before .before .loop .code) (c .before .before .before .before .before .before .args .from) (c .before .before .loop .row) (c .before .before .loop .depth)
 turn-in c =
     let h = c .before .before .loop in
     in-range (h .left) (h .code) (c .before .before .before .before .before .before .args .from) (h .row) (h .depth) _ (c .before .in-range .ensures) (c .if1 .taken)

@@ -26,7 +26,7 @@ argOf s i = getD s i 0 / 8
 abbrev pub inside : ℕ → ℕ → ℕ → ℕ → ℕ → Bool
 inside left i from row depth = (((ltb 0 left && ltb i LIMIT) && leb from LIMIT) && ltb row LIMIT) && ltb depth LIMIT
 
-pub record Inside (left i from row depth : ℕ) : Type 0 where
+pub record InRange (left i from row depth : ℕ) : Type 0 where
   pub some-left : 0 < left
   pub code-in : i < LIMIT
   pub from-in : from ≤ LIMIT

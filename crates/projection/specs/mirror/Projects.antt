@@ -41,20 +41,20 @@ SMALL = 8192
 
 mutual
   -- nothing is in flight, and roles, labels and depths are small
-  pub data Small {A : Type 0} : Global A → Type 0 where
-    s-end : Small end
-    s-exchange : {p q : ℕ} {cs : Arms A} → p < base .roles → q < base .roles → SmallArms cs → Small (exchange p q cs)
-    s-loop : {G : Global A} → Small G → Small (loop G)
-    s-back : {k : ℕ} → k < SMALL → Small (back k)
+  pub data Coded {A : Type 0} : Global A → Type 0 where
+    s-end : Coded end
+    s-exchange : {p q : ℕ} {cs : Arms A} → p < base .roles → q < base .roles → CodedArms cs → Coded (exchange p q cs)
+    s-loop : {G : Global A} → Coded G → Coded (loop G)
+    s-back : {k : ℕ} → k < SMALL → Coded (back k)
 
-  pub data SmallArms {A : Type 0} : Arms A → Type 0 where
-    s-nil : SmallArms nil
-    s-arm : {l : ℕ} {G : Global A} {cs : Arms A} → l < SMALL → Small G → SmallArms cs → SmallArms (arm l G cs)
+  pub data CodedArms {A : Type 0} : Arms A → Type 0 where
+    s-nil : CodedArms nil
+    s-arm : {l : ℕ} {G : Global A} {cs : Arms A} → l < SMALL → Coded G → CodedArms cs → CodedArms (arm l G cs)
 
 -- arms whose labels are small and whose trees are good and small, in any order
 pub data Plain : Arms ℕ → Type 0 where
   plain-nil : Plain nil
-  plain-arm : {l : ℕ} {G : Global ℕ} {cs : Arms ℕ} → l < SMALL → Good G → Small G → Plain cs → Plain (arm l G cs)
+  plain-arm : {l : ℕ} {G : Global ℕ} {cs : Arms ℕ} → l < SMALL → Good G → Coded G → Plain cs → Plain (arm l G cs)
 
 -- ---- the stack
 
@@ -102,7 +102,7 @@ pub record Known (r : ℕ) (t kept order : List ℕ) : Type 0 where
   pub orders : Orders t order
 
 pub record Planned (k r : ℕ) (t kept order : List ℕ) (i w next : ℕ) : Type 0 where
-  pub says : (G : Global ℕ) → Known r t kept order → Grows t i G → Small G → PlannedBy k r t order G w next
+  pub says : (G : Global ℕ) → Known r t kept order → Grows t i G → Coded G → PlannedBy k r t order G w next
 
 -- an arm as the code read it
 pub record ArmRead (t : List ℕ) (i : ℕ) (a : Arm) : Type 0 where
@@ -133,9 +133,9 @@ pub data Wraps (ws : List ℕ) (n : ℕ) : Option Part → Option Part → Type 
   wraps-some : {P Q : Part} → codes Q ≡ ws ++ (codes P ++ marks n) → Wraps ws n (some P) (some Q)
 
 -- the part of G is that of the tree B below it, with words before and marks behind, and the links that are left suffice for B
-pub record Inside (r : ℕ) (G : Global ℕ) (left : ℕ) (ws : List ℕ) (n : ℕ) (B : Global ℕ) : Type 0 where
+pub record Within (r : ℕ) (G : Global ℕ) (left : ℕ) (ws : List ℕ) (n : ℕ) (B : Global ℕ) : Type 0 where
   pub good : Good B
-  pub small : Small B
+  pub small : Coded B
   pub wraps : Wraps ws n (part r B) (part r G)
   pub rows : rowsIn B ≤ left
   pub fits : length ws + (rowsIn B * 2 + n) ≤ rowsIn G * 2
@@ -144,16 +144,16 @@ pub record Inside (r : ℕ) (G : Global ℕ) (left : ℕ) (ws : List ℕ) (n : �
 pub record Enters (t : List ℕ) (k w next : ℕ) (work : List ℕ) (at : ℕ) (work′ : List ℕ) (e : Step) : Type 0 where
   pub few : e .marks ≤ 1
   pub gives : (r : ℕ) (order : List ℕ) (G : Global ℕ) (left : ℕ) (s : List ℕ) → leadsOn t order k next ≡ true → PlannedBy k r t order G w next
-      → rowsIn G ≤ suc left → Good G → Small G → Stack work at s → at + rowsIn G * 2 ≤ length work
-      → (B : Global ℕ) × (ws : List ℕ) × Grows t (e .row) B × Stack work′ (e .at) (s ++ ws) × Inside r G left ws (e .marks) B
+      → rowsIn G ≤ suc left → Good G → Coded G → Stack work at s → at + rowsIn G * 2 ≤ length work
+      → (B : Global ℕ) × (ws : List ℕ) × Grows t (e .row) B × Stack work′ (e .at) (s ++ ws) × Within r G left ws (e .marks) B
 
 -- the plan of a row below row i that leads on to no single one, and what stands around its part
 pub record Walks (r : ℕ) (t kept order : List ℕ) (left i : ℕ) (work : List ℕ) (at : ℕ) (work′ : List ℕ) (e : Way) : Type 0 where
   pub no-loop : e .case ≢ 1
   pub within : e .left ≤ left
-  pub gives : (G : Global ℕ) (s : List ℕ) → Known r t kept order → Grows t i G → rowsIn G ≤ left → Good G → Small G → Stack work at s
+  pub gives : (G : Global ℕ) (s : List ℕ) → Known r t kept order → Grows t i G → rowsIn G ≤ left → Good G → Coded G → Stack work at s
       → at + rowsIn G * 2 ≤ length work
-      → (B : Global ℕ) × (ws : List ℕ) × PlannedBy (e .case) r t order B (e .word) (e .next) × Stack work′ (e .at) (s ++ ws) × Inside r G (e .left) ws (e .marks) B
+      → (B : Global ℕ) × (ws : List ℕ) × PlannedBy (e .case) r t order B (e .word) (e .next) × Stack work′ (e .at) (s ++ ws) × Within r G (e .left) ws (e .marks) B
 
 -- so many marks more
 pub record Closed (n : ℕ) (work : List ℕ) (at : ℕ) (work′ : List ℕ) (e : ℕ) : Type 0 where
@@ -163,12 +163,12 @@ pub record Closed (n : ℕ) (work : List ℕ) (at : ℕ) (work′ : List ℕ) (e
 
 -- the tree of the plan k
 pub record Chooses (k r : ℕ) (t kept order : List ℕ) (left w next : ℕ) (work : List ℕ) (at : ℕ) (spare work′ : List ℕ) (res : Projected) : Type 0 where
-  pub gives : (G : Global ℕ) (s : List ℕ) → Known r t kept order → PlannedBy k r t order G w next → rowsIn G ≤ left → Good G → Small G → Stack work at s
+  pub gives : (G : Global ℕ) (s : List ℕ) → Known r t kept order → PlannedBy k r t order G w next → rowsIn G ≤ left → Good G → Coded G → Stack work at s
       → Space (rowsIn G * 2) at work spare → Outcome codes s work′ res (part r G)
 
 -- the links that may be followed suffice for a tree of so many rows
 pub record Projects (r : ℕ) (t kept order : List ℕ) (left i : ℕ) (work : List ℕ) (at : ℕ) (spare work′ : List ℕ) (res : Projected) : Type 0 where
-  pub gives : (G : Global ℕ) (s : List ℕ) → Known r t kept order → Grows t i G → rowsIn G ≤ left → Good G → Small G → Stack work at s
+  pub gives : (G : Global ℕ) (s : List ℕ) → Known r t kept order → Grows t i G → rowsIn G ≤ left → Good G → Coded G → Stack work at s
       → Space (rowsIn G * 2) at work spare → Outcome codes s work′ res (part r G)
 
 -- the arms from row i on, in rising order
@@ -183,7 +183,7 @@ pub data Behind (t : List ℕ) : ℕ → Arms ℕ → Type 0 where
 
 -- P is the last on the stack
 pub record Folds (r : ℕ) (t kept order : List ℕ) (left i : ℕ) (work : List ℕ) (at e : ℕ) (spare work′ : List ℕ) (res : Projected) : Type 0 where
-  pub gives : (cs : Arms ℕ) (s : List ℕ) (P : Part) → Known r t kept order → Behind t i cs → rowsInArms cs ≤ left → GoodArms cs → SmallArms cs → Rising P
+  pub gives : (cs : Arms ℕ) (s : List ℕ) (P : Part) → Known r t kept order → Behind t i cs → rowsInArms cs ≤ left → GoodArms cs → CodedArms cs → Rising P
       → at ≡ length s → Stack work e (s ++ codes P) → Space ((size P + rowsInArms cs) * 2) at work spare
       → Outcome codes s work′ res (bind (partArms r cs) (λ ps. mergeFrom P ps))
 
