@@ -3,7 +3,7 @@ ghost use mathlib.Core.Path.{_≡_};
 ghost use Prim.Native.Nat.{_+_};
 ghost use Rattle.blocks.specs.Block.{isHead};
 ghost use Rattle.blocks.specs.Head.{find};
-ghost use Rattle.blocks.specs.mirror.Rows.{words, said, followAt, chainAt, foundOf};
+ghost use Rattle.blocks.specs.mirror.Rows.{words, noWords, said, followAt, chainAt, foundOf};
 
 // The first word decides what the other three hold.
 pub struct Row {
@@ -33,18 +33,41 @@ pub enum Found {
     Nothing,
 }
 
+// No row of the tables: its words are 0.
+fn no_row() -> Row
+    ensures { λ r. ⌜ r ≡ noWords ⌝ }
+{
+    Row {
+        kind: 0,
+        first: 0,
+        second: 0,
+        third: 0,
+    }
+}
+
+// The words of a row that is not whole.
+fn broken_row(tables: &[u16], at: usize) -> Row
+    ensures { λ r. ⌜ r ≡ words (now (tables .entry)) at ⌝ }
+{
+    let kind = words::word(tables, at, 0);
+    let first = words::word(tables, at, 1);
+    let second = words::word(tables, at, 2);
+    let third = words::word(tables, at, 3);
+    Row {
+        kind: kind,
+        first: first,
+        second: second,
+        third: third,
+    }
+}
+
 // A row of the block; past the end of the tables its words are 0. One test serves all four words of a row inside.
 pub fn row_at(tables: &[u16], start: usize, row: usize) -> Row
     ensures { λ r. ⌜ r ≡ words (now (tables .entry)) (start + row) ⌝ }
 {
     let rows = tables.len() / 4;
     if rows < start {
-        return Row {
-            kind: 0,
-            first: 0,
-            second: 0,
-            third: 0,
-        };
+        return no_row();
     }
     if row < rows - start {
         let at = (start + row) * 4;
@@ -56,25 +79,9 @@ pub fn row_at(tables: &[u16], start: usize, row: usize) -> Row
         };
     }
     if rows - start < row {
-        return Row {
-            kind: 0,
-            first: 0,
-            second: 0,
-            third: 0,
-        };
+        return no_row();
     }
-    // The words after the last whole row.
-    let at = start + row;
-    let kind = words::word(tables, at, 0);
-    let first = words::word(tables, at, 1);
-    let second = words::word(tables, at, 2);
-    let third = words::word(tables, at, 3);
-    Row {
-        kind: kind,
-        first: first,
-        second: second,
-        third: third,
-    }
+    broken_row(tables, start + row)
 }
 
 // The row where a role at `row` comes to stand: on through Loop and Back rows, at most as often as the block has rows.

@@ -10,7 +10,7 @@ ghost use Rattle.words.specs.Below.{every};
 ghost use Rattle.table.specs.Limits.{base};
 ghost use Rattle.blocks.specs.Tables.{isPeer};
 ghost use Rattle.blocks.specs.mirror.Rows.{said};
-ghost use Rattle.blocks.specs.mirror.Tables.{toArmAt, toOtherAt, nextAt, toLoopAt, rowHoldsAt, rowGoodAt, sizedRows, goodRows};
+ghost use Rattle.blocks.specs.mirror.Tables.{toArmAt, toOtherAt, nextAt, toLoopAt, actionHoldsAt, rowHoldsAt, rowGoodAt, sizedRows, goodRows};
 ghost use Rattle.blocks.specs.mirror.Heads.{Noted};
 
 // A link from a row to an Arm of a higher number, inside the block.
@@ -57,6 +57,23 @@ fn is_peer(roles: usize, role: usize, peer: u16) -> bool
     (other < roles) & (other != role)
 }
 
+// A Send or a Receive: a peer, and a first arm.
+fn action_holds(
+    tables: &[u16],
+    roles: usize,
+    rows: usize,
+    start: usize,
+    role: usize,
+    row: usize,
+    part: Row,
+) -> bool
+    ensures { λ r. ⌜ r ≡ actionHoldsAt (now (tables .entry)) roles rows start role row (part .first) (part .second) (part .third) ⌝ }
+{
+    let peer = is_peer(roles, role, part.first);
+    let arm = to_arm(tables, start, rows, row, part.second);
+    peer & arm & (part.third == 0)
+}
+
 // The kind of a row chooses the tests of its fields and links.
 fn row_holds(
     tables: &[u16],
@@ -86,16 +103,8 @@ fn row_holds(
             let returns = to_loop(tables, start, row, part.first);
             returns & (part.second == 0) & (part.third == 0)
         }
-        Row::SEND => {
-            let peer = is_peer(roles, role, part.first);
-            let arm = to_arm(tables, start, rows, row, part.second);
-            peer & arm & (part.third == 0)
-        }
-        Row::RECEIVE => {
-            let peer = is_peer(roles, role, part.first);
-            let arm = to_arm(tables, start, rows, row, part.second);
-            peer & arm & (part.third == 0)
-        }
+        Row::SEND => action_holds(tables, roles, rows, start, role, row, part),
+        Row::RECEIVE => action_holds(tables, roles, rows, start, role, row, part),
         _ => false,
     }
 }
@@ -110,7 +119,7 @@ fn row_good(
     role: usize,
     row: usize,
 ) -> bool
-    requires { ⌜ (rows ≤ 256) × (start ≤ 2048) × (row < rows) × (Noted (now tables) start rows (now noted)) ⌝ }
+    requires { ⌜ (rows ≤ base .rows) × (start ≤ base .roles * base .rows) × (row < rows) × (Noted (now tables) start rows (now noted)) ⌝ }
     ensures { λ r. ⌜ (r ≡ true → rowGoodAt base (now (tables .entry)) roles rows start role row ≡ true)
         × (r ≡ false → every (λ i. rowGoodAt base (now (tables .entry)) roles rows start role i) rows ≡ false)
         × (Noted (now (tables .entry)) start rows (now (noted .exit))) ⌝ }
@@ -134,7 +143,7 @@ fn block_good(
     start: usize,
     role: usize,
 ) -> bool
-    requires { ⌜ (rows ≤ 256) × (start ≤ 2048) × (Noted (now tables) start rows (now noted)) ⌝ }
+    requires { ⌜ (rows ≤ base .rows) × (start ≤ base .roles * base .rows) × (Noted (now tables) start rows (now noted)) ⌝ }
     ensures { λ r. ⌜ (r ≡ every (λ i. rowGoodAt base (now (tables .entry)) roles rows start role i) rows)
         × (Noted (now (tables .entry)) start rows (now (noted .exit))) ⌝ }
 {
@@ -150,7 +159,7 @@ fn block_good(
 
 // The blocks share one array of notes: what an earlier block left there is at most the next block's `start`.
 fn blocks_good(tables: &[u16], roles: usize, rows: usize) -> bool
-    requires { ⌜ (roles ≤ 8) × (rows ≤ 256) ⌝ }
+    requires { ⌜ (roles ≤ base .roles) × (rows ≤ base .rows) ⌝ }
     ensures { λ r. ⌜ r ≡ every (λ p. every (λ i. rowGoodAt base (now (tables .entry)) roles rows (p * rows) p i) rows) roles ⌝ }
 {
     let mut noted = [0u16; Table::ROWS];

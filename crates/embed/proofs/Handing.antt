@@ -17,7 +17,7 @@ use Rattle.session.specs.Awaited.{awaitedOf}
 use Rattle.session.specs.declared.Session.{Session}
 use Rattle.session.specs.declared.Answer.{Answer}
 use Rattle.session.specs.declared.Awaiting.{Awaiting}
-use Rattle.lent.specs.Slices.{isState, lent, over, givenOf}
+use Rattle.lent.specs.Slices.{isState, lent, replaced, givenOf}
 use Rattle.lent.specs.declared.Given.{Given}
 use Rattle.embed.specs.Lent.{wrongNumber, lentCall, awaitedLent, Handed, Told}
 use Rattle.embed.specs.mirror.Given.{givenCall}
@@ -40,13 +40,13 @@ module _ (ts : List ℕ) (roles rows : ℕ) (found : rows ≡ goodRows base ts r
   wrong-state h = rw (good-tables ts roles rows found h .0)
 
 -- words that were read in and put back unchanged
-kept-by : (n : ℕ) (zeros words : List ℕ) → length zeros ≡ n → (b : Bool) → eqb (length words) n ≡ b → over n (over (length words) words zeros) words ≡ words
+kept-by : (n : ℕ) (zeros words : List ℕ) → length zeros ≡ n → (b : Bool) → eqb (length words) n ≡ b → replaced n (replaced (length words) words zeros) words ≡ words
 kept-by n zeros words e true q =
     let m : length words ≡ n = eqb-true (length words) n q in
     rw (q, eq-eqb (length zeros) (length words) (e ∙ sym m))
 kept-by n zeros words e false q = rw q
 
-kept : (n : ℕ) (zeros words : List ℕ) → length zeros ≡ n → over n (over (length words) words zeros) words ≡ words
+kept : (n : ℕ) (zeros words : List ℕ) → length zeros ≡ n → replaced n (replaced (length words) words zeros) words ≡ words
 kept n zeros words e = kept-by n zeros words e (eqb (length words) n) refl
 
 module _ (ts : List ℕ) (roles : ℕ) (h c l p : List ℕ) where
@@ -72,8 +72,8 @@ module _ (ts : List ℕ) (roles : ℕ) (h c l p : List ℕ) where
     pub said : let w = lentCall base ts roles call h c l p in (a .number ≡ w .number) × (a .label ≡ w .label) × (a .payload ≡ w .payload)
     said = said-by (isState base h c l p) refl
 
-    module _ (h' c' l' p' : List ℕ) (eh : h' ≡ over 8 (a .state .heads) h) (ec : c' ≡ over 64 (a .state .counts) c)
-        (el : l' ≡ over 256 (a .state .labels) l) (ep : p' ≡ over 256 (a .state .payloads) p) where
+    module _ (h' c' l' p' : List ℕ) (eh : h' ≡ replaced 8 (a .state .heads) h) (ec : c' ≡ replaced 64 (a .state .counts) c)
+        (el : l' ≡ replaced 256 (a .state .labels) l) (ep : p' ≡ replaced 256 (a .state .payloads) p) where
       handed-by : (b : Bool) → isState base h c l p ≡ b → Handed (lentCall base ts roles call h c l p) (a .number) h' c' l' p'
       handed-by true e =
           let (kh, kc, kl, kp) = state-lengths h c l p e in
@@ -90,10 +90,10 @@ module _ (ts : List ℕ) (roles : ℕ) (h c l p : List ℕ) where
           let z = nothing base in
           rw e (record {
             number-is = ap (λ (x : Answer). x .number) m;
-            heads-are = eh ∙ (ap (λ (x : Answer). over 8 (x .state .heads) h) m ∙ kept 8 (z .heads) h refl);
-            counts-are = ec ∙ (ap (λ (x : Answer). over 64 (x .state .counts) c) m ∙ kept 64 (z .counts) c refl);
-            labels-are = el ∙ (ap (λ (x : Answer). over 256 (x .state .labels) l) m ∙ kept 256 (z .labels) l refl);
-            payloads-are = ep ∙ (ap (λ (x : Answer). over 256 (x .state .payloads) p) m ∙ kept 256 (z .payloads) p refl);
+            heads-are = eh ∙ (ap (λ (x : Answer). replaced 8 (x .state .heads) h) m ∙ kept 8 (z .heads) h refl);
+            counts-are = ec ∙ (ap (λ (x : Answer). replaced 64 (x .state .counts) c) m ∙ kept 64 (z .counts) c refl);
+            labels-are = el ∙ (ap (λ (x : Answer). replaced 256 (x .state .labels) l) m ∙ kept 256 (z .labels) l refl);
+            payloads-are = ep ∙ (ap (λ (x : Answer). replaced 256 (x .state .payloads) p) m ∙ kept 256 (z .payloads) p refl);
           })
 
       -- the answer's state is what the slices hold now

@@ -19,17 +19,17 @@ abbrev pub lent : List ℕ → List ℕ → List ℕ → List ℕ → Session
 lent heads counts labels payloads = record { heads = heads; counts = counts; labels = labels; payloads = payloads }
 
 -- n words written over others, which stay where they are not n
-abbrev pub over : ℕ → List ℕ → List ℕ → List ℕ
-over n words old = cond (eqb (length old) n) words old
+abbrev pub replaced : ℕ → List ℕ → List ℕ → List ℕ
+replaced n words old = cond (eqb (length old) n) words old
 
 -- what is read in: each slice over the zeros of no state, and whether all four are a state's
 abbrev pub givenOf : Limits → List ℕ → List ℕ → List ℕ → List ℕ → Given
 givenOf lim heads counts labels payloads = record {
   whole = isState lim heads counts labels payloads;
   state = record {
-    heads = over (length heads) heads (nothing lim .heads);
-    counts = over (length counts) counts (nothing lim .counts);
-    labels = over (length labels) labels (nothing lim .labels);
-    payloads = over (length payloads) payloads (nothing lim .payloads);
+    heads = replaced (length heads) heads (nothing lim .heads);
+    counts = replaced (length counts) counts (nothing lim .counts);
+    labels = replaced (length labels) labels (nothing lim .labels);
+    payloads = replaced (length payloads) payloads (nothing lim .payloads);
   };
 }

@@ -3,7 +3,7 @@ ghost use mathlib.Core.Path.{_≡_};
 ghost use Prim.Native.Nat.{_*_};
 ghost use lib.ListN.{length};
 ghost use Rattle.table.specs.Limits.{base};
-ghost use Rattle.lent.specs.Slices.{isState, over, givenOf};
+ghost use Rattle.lent.specs.Slices.{isState, replaced, givenOf};
 use session::Session;
 
 // The state that was read in, and whether the four slices have the lengths of a state.
@@ -14,7 +14,7 @@ pub struct Given {
 
 // One copy for each width of a state's words.
 fn copy_u8(from: &[u8], to: &mut [u8])
-    ensures { λ _. ⌜ now (to .exit) ≡ over (length (now (from .entry))) (now (from .entry)) (now (to .entry)) ⌝ }
+    ensures { λ _. ⌜ now (to .exit) ≡ replaced (length (now (from .entry))) (now (from .entry)) (now (to .entry)) ⌝ }
 {
     if to.len() != from.len() {
         return;
@@ -27,7 +27,7 @@ fn copy_u8(from: &[u8], to: &mut [u8])
 }
 
 fn copy_u16(from: &[u16], to: &mut [u16])
-    ensures { λ _. ⌜ now (to .exit) ≡ over (length (now (from .entry))) (now (from .entry)) (now (to .entry)) ⌝ }
+    ensures { λ _. ⌜ now (to .exit) ≡ replaced (length (now (from .entry))) (now (from .entry)) (now (to .entry)) ⌝ }
 {
     if to.len() != from.len() {
         return;
@@ -40,7 +40,7 @@ fn copy_u16(from: &[u16], to: &mut [u16])
 }
 
 fn copy_u32(from: &[u32], to: &mut [u32])
-    ensures { λ _. ⌜ now (to .exit) ≡ over (length (now (from .entry))) (now (from .entry)) (now (to .entry)) ⌝ }
+    ensures { λ _. ⌜ now (to .exit) ≡ replaced (length (now (from .entry))) (now (from .entry)) (now (to .entry)) ⌝ }
 {
     if to.len() != from.len() {
         return;
@@ -94,10 +94,10 @@ pub fn put_back(
     labels: &mut [u8],
     payloads: &mut [u32],
 )
-    ensures { λ _. ⌜ (now (heads .exit) ≡ over (base .roles) (state .heads) (now (heads .entry)))
-        × (now (counts .exit) ≡ over (base .roles * base .roles) (state .counts) (now (counts .entry)))
-        × (now (labels .exit) ≡ over (base .roles * base .roles * base .depth) (state .labels) (now (labels .entry)))
-        × (now (payloads .exit) ≡ over (base .roles * base .roles * base .depth) (state .payloads) (now (payloads .entry))) ⌝ }
+    ensures { λ _. ⌜ (now (heads .exit) ≡ replaced (base .roles) (state .heads) (now (heads .entry)))
+        × (now (counts .exit) ≡ replaced (base .roles * base .roles) (state .counts) (now (counts .entry)))
+        × (now (labels .exit) ≡ replaced (base .roles * base .roles * base .depth) (state .labels) (now (labels .entry)))
+        × (now (payloads .exit) ≡ replaced (base .roles * base .roles * base .depth) (state .payloads) (now (payloads .entry))) ⌝ }
 {
     let new_heads = state.heads;
     let new_counts = state.counts;

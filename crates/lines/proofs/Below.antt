@@ -10,7 +10,7 @@ use borrow.Author.Tests.{lt-ltb, le-ltb, ltb-true, le-leb, lt-leb}
 use lib.ListN.{length, getD, drop, drop-of-length-le}
 use lib.Seq.{drop-cons}
 use Rattle.words.proofs.Below.{and-both}
-use Rattle.lines.specs.Over.{over, allBelow, fits, narrowed}
+use Rattle.lines.specs.Over.{overlaid, allBelow, fits, narrowed}
 
 -- a number below the bound is passed
 pub passed : (bound : ℕ) (ns : List ℕ) (i : ℕ) → i < length ns → getD ns i 0 < bound → allBelow bound (drop (i + 1) ns) ≡ allBelow bound (drop i ns)
@@ -46,6 +46,6 @@ pub too-wide : (bound : ℕ) (ns old : List ℕ) → length ns ≤ length old �
 unfolding fits narrowed
 too-wide bound ns old l e = rw (le-leb (length ns) (length old) l, e) (refl, refl)
 
-pub all-fit : (bound : ℕ) (ns old new : List ℕ) → length ns ≤ length old → allBelow bound ns ≡ true → new ≡ over 0 ns old → Narrowed bound ns old true new
+pub all-fit : (bound : ℕ) (ns old new : List ℕ) → length ns ≤ length old → allBelow bound ns ≡ true → new ≡ overlaid 0 ns old → Narrowed bound ns old true new
 unfolding fits narrowed
 all-fit bound ns old new l e h = rw (le-leb (length ns) (length old) l, e) (refl, h)

@@ -14,7 +14,7 @@ use Rattle.lines.specs.declared.read.Count.the-variants.{Of, Malformed}
 use Rattle.lines.specs.declared.read.Place.{Place}
 use Rattle.lines.specs.declared.read.Place.the-variants.{Letter}
 use Rattle.lines.specs.Line.{part, parts, isEmpty, isNumber, values, value, wellFormed, numbersOf, countOf}
-use Rattle.lines.specs.Over.{over, behind}
+use Rattle.lines.specs.Over.{overlaid, behind}
 use Rattle.lines.specs.mirror.Places.{stepOf, endedOf, wholeOf}
 use Rattle.lines.proofs.Reading.{toStore, last, read-line}
 use Rattle.lines.proofs.Stores.{Same, written, all-written, nothing}
@@ -29,7 +29,7 @@ begun line old = record { stores = record { list = refl; place = refl }; ends = 
 
 -- one byte more
 pub read-on : (line old out out′ : List ℕ) (at at′ : ℕ) (p p′ : Place) (i : ℕ) → i < length line
-    → at′ ≡ behind at (endedOf p (getD line i 0)) out → out′ ≡ over at (endedOf p (getD line i 0)) out → p′ ≡ stepOf p (getD line i 0)
+    → at′ ≡ behind at (endedOf p (getD line i 0)) out → out′ ≡ overlaid at (endedOf p (getD line i 0)) out → p′ ≡ stepOf p (getD line i 0)
     → Left line old out at p i → Left line old out′ at′ p′ (i + 1)
 unfolding toStore last
 read-on line old out out′ at at′ p p′ i l e f g left =
@@ -76,8 +76,8 @@ means (letter ∷ bs) l = read-line bs
 
 -- at the line's end its last number is stored
 pub line-read : (line old out out′ : List ℕ) (at at′ : ℕ) (p : Place) (i : ℕ) → 0 < length line → length line ≤ i → length line ≤ length old
-    → at′ ≡ behind at (endedOf p 32) out → out′ ≡ over at (endedOf p 32) out → Left line old out at p i
-    → (at′ ≡ length (numbersOf line)) × (out′ ≡ over 0 (numbersOf line) old) × (wholeOf p ≡ wellFormed line)
+    → at′ ≡ behind at (endedOf p 32) out → out′ ≡ overlaid at (endedOf p 32) out → Left line old out at p i
+    → (at′ ≡ length (numbersOf line)) × (out′ ≡ overlaid 0 (numbersOf line) old) × (wholeOf p ≡ wellFormed line)
 unfolding toStore last behind
 line-read line old out out′ at at′ p i n l room e f left =
     let here = rw (drop-of-length-le line l) at (left .stores) in
@@ -96,7 +96,7 @@ line-read line old out out′ at at′ p i n l room e f left =
 
 -- what `numbers` promises
 abbrev Read : List ℕ → List ℕ → Count → List ℕ → Type 0
-Read line old r out = (r ≡ countOf line (length old)) × (out ≡ cond (leb (length line) (length old)) (over 0 (numbersOf line) old) old)
+Read line old r out = (r ≡ countOf line (length old)) × (out ≡ cond (leb (length line) (length old)) (overlaid 0 (numbersOf line) old) old)
 
 pub no-letter : (line old : List ℕ) → length line ≡ 0 → Read line old Malformed old
 unfolding countOf numbersOf wellFormed
@@ -108,11 +108,11 @@ unfolding countOf
 too-long line old l = rw (lt-leb (length line) (length old) l) (refl, refl)
 
 pub well-formed : (line old out : List ℕ) (at : ℕ) → length line ≤ length old → wellFormed line ≡ true
-    → at ≡ length (numbersOf line) → out ≡ over 0 (numbersOf line) old → Read line old (Of at) out
+    → at ≡ length (numbersOf line) → out ≡ overlaid 0 (numbersOf line) old → Read line old (Of at) out
 unfolding countOf
 well-formed line old out at l w e f = rw (le-leb (length line) (length old) l, w, e) (refl, f)
 
 pub malformed : (line old out : List ℕ) → length line ≤ length old → wellFormed line ≡ false
-    → out ≡ over 0 (numbersOf line) old → Read line old Malformed out
+    → out ≡ overlaid 0 (numbersOf line) old → Read line old Malformed out
 unfolding countOf
 malformed line old out l w f = rw (le-leb (length line) (length old) l, w) (refl, f)

@@ -5,7 +5,7 @@ use mathlib.Core.List.{List, [], _∷_}
 use mathlib.Core.Path.{_≡_, refl}
 use Rattle.lines.specs.declared.read.Count.the-variants.{Of, Malformed}
 use Rattle.lines.specs.Line.{part, parts, isDigit, allDigits, value, isNumber, allNumbers, values, wellFormed, numbersOf, countOf}
-use Rattle.lines.specs.Over.{over, behind, allBelow, fits, narrowed}
+use Rattle.lines.specs.Over.{overlaid, behind, allBelow, fits, narrowed}
 use Rattle.lines.specs.Text.{digitsOf, decimal, textOf}
 
 -- "o 07 4294967295"
@@ -85,24 +85,24 @@ unfolding textOf decimal digitsOf
 text = refl
 
 -- in the middle, across the end, behind the end
-middle : over 1 (7 ∷ 8 ∷ []) (1 ∷ 2 ∷ 3 ∷ 4 ∷ []) ≡ 1 ∷ 7 ∷ 8 ∷ 4 ∷ []
-unfolding over
+middle : overlaid 1 (7 ∷ 8 ∷ []) (1 ∷ 2 ∷ 3 ∷ 4 ∷ []) ≡ 1 ∷ 7 ∷ 8 ∷ 4 ∷ []
+unfolding overlaid
 middle = refl
 
-across : over 3 (7 ∷ 8 ∷ []) (1 ∷ 2 ∷ 3 ∷ 4 ∷ []) ≡ 1 ∷ 2 ∷ 3 ∷ 7 ∷ []
-unfolding over
+across : overlaid 3 (7 ∷ 8 ∷ []) (1 ∷ 2 ∷ 3 ∷ 4 ∷ []) ≡ 1 ∷ 2 ∷ 3 ∷ 7 ∷ []
+unfolding overlaid
 across = refl
 
 across-ends : behind 3 (7 ∷ 8 ∷ []) (1 ∷ 2 ∷ 3 ∷ 4 ∷ []) ≡ 4
 unfolding behind
 across-ends = refl
 
-past : over 6 (7 ∷ 8 ∷ []) (1 ∷ 2 ∷ 3 ∷ 4 ∷ []) ≡ 1 ∷ 2 ∷ 3 ∷ 4 ∷ []
-unfolding over
+past : overlaid 6 (7 ∷ 8 ∷ []) (1 ∷ 2 ∷ 3 ∷ 4 ∷ []) ≡ 1 ∷ 2 ∷ 3 ∷ 4 ∷ []
+unfolding overlaid
 past = refl
 
 fit : narrowed 256 (255 ∷ 3 ∷ []) (0 ∷ 0 ∷ 9 ∷ []) ≡ 255 ∷ 3 ∷ 9 ∷ []
-unfolding over allBelow fits narrowed
+unfolding overlaid allBelow fits narrowed
 fit = refl
 
 wide : fits 256 (3 ∷ 256 ∷ []) (0 ∷ 0 ∷ 9 ∷ []) ≡ false
@@ -110,7 +110,7 @@ unfolding allBelow fits
 wide = refl
 
 wide-stays : narrowed 256 (3 ∷ 256 ∷ []) (0 ∷ 0 ∷ 9 ∷ []) ≡ 0 ∷ 0 ∷ 9 ∷ []
-unfolding over allBelow fits narrowed
+unfolding overlaid allBelow fits narrowed
 wide-stays = refl
 
 many : fits 256 (3 ∷ 2 ∷ []) (0 ∷ []) ≡ false

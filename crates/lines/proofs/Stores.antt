@@ -11,7 +11,7 @@ use lib.Dec.{ltb}
 use borrow.Author.Tests.{ltb-true, ltb-false}
 use lib.ListN.{length, getD, set, take, drop, length-set, length-append, take-append-drop, drop-of-length-le}
 use lib.Seq.{sets, length-sets, drop-cons, take-nil, take-all, take-suc-set, drop-set-lt, set-out, append-snoc}
-use Rattle.lines.specs.Over.{over, behind}
+use Rattle.lines.specs.Over.{overlaid, behind}
 
 -- one store more
 pub stored : (xs out : List ℕ) (p i : ℕ) → i < length xs
@@ -26,13 +26,13 @@ decide a b true e = inl (ltb-true a b e)
 decide a b false e = inr (ltb-false a b e)
 
 -- nothing written
-none-over : (at : ℕ) (old : List ℕ) → old ≡ over at [] old
-unfolding over
+none-over : (at : ℕ) (old : List ℕ) → old ≡ overlaid at [] old
+unfolding overlaid
 none-over at old = rw (take-nil (length old - at), add-zero at, append-nil (take at old), take-append-drop at old)
 
 -- one number written, where there is room and where there is none
-one-over : (at x : ℕ) (xs old : List ℕ) → Order at (length old) → over (suc at) xs (set old at x) ≡ over at (x ∷ xs) old
-unfolding over
+one-over : (at x : ℕ) (xs old : List ℕ) → Order at (length old) → overlaid (suc at) xs (set old at x) ≡ overlaid at (x ∷ xs) old
+unfolding overlaid
 one-over at x xs old (inl l) =
     let e : length old - at ≡ suc (length old - suc at) = omega arith in
     let f : suc at + length xs ≡ at + suc (length xs) = omega arith in
@@ -47,7 +47,7 @@ one-over at x xs old (inr l) =
     rw (set-out old at x l, e, f, take-all at old l, take-all (suc at) old g, drop-of-length-le old h, drop-of-length-le old k)
 
 -- the stores one behind another are what is written over
-pub stores : (at : ℕ) (xs old : List ℕ) → sets old at xs ≡ over at xs old
+pub stores : (at : ℕ) (xs old : List ℕ) → sets old at xs ≡ overlaid at xs old
 stores at [] old = none-over at old
 stores at (x ∷ xs) old = stores (suc at) xs (set old at x) ∙ one-over at x xs old (decide at (length old) (ltb at (length old)) refl)
 
@@ -61,14 +61,14 @@ rest xs out p i f (inl l) = no-room p (drop i xs) out (f l)
 rest xs out p i f (inr l) = rw (drop-of-length-le xs l)
 
 -- once all is stored or there is no more room, xs is written over the old ones
-pub finished : (xs out old : List ℕ) (p i at : ℕ) → sets out p (drop i xs) ≡ sets old at xs → (i < length xs → length out ≤ p) → out ≡ over at xs old
+pub finished : (xs out old : List ℕ) (p i at : ℕ) → sets out p (drop i xs) ≡ sets old at xs → (i < length xs → length out ≤ p) → out ≡ overlaid at xs old
 finished xs out old p i at e f = sym (rest xs out p i f (decide i (length xs) (ltb i (length xs)) refl)) ∙ (e ∙ stores at xs old)
 
 -- from a place past the end nothing is written
-pub past-end : (at : ℕ) (xs old : List ℕ) → length old ≤ at → old ≡ over at xs old
+pub past-end : (at : ℕ) (xs old : List ℕ) → length old ≤ at → old ≡ overlaid at xs old
 past-end at xs old l = sym (no-room at xs old l) ∙ stores at xs old
 
-pub length-over : (at : ℕ) (xs old : List ℕ) → length (over at xs old) ≡ length old
+pub length-over : (at : ℕ) (xs old : List ℕ) → length (overlaid at xs old) ≡ length old
 length-over at xs old = rw (← (stores at xs old)) (length-sets old at xs)
 
 -- ys to be written to out′ from at′ on comes to the same as xs to be written to out from at on
@@ -100,7 +100,7 @@ joined at [] ys out =
 joined at (x ∷ xs) ys out = sym (one-joined at x xs ys out (decide at (length out) (ltb at (length out)) refl)) ∙ joined (suc at) xs ys (set out at x)
 
 -- once xs is written, ys is left of both
-pub written : (at at′ : ℕ) (xs ys out out′ : List ℕ) → at′ ≡ behind at xs out → out′ ≡ over at xs out → Same out′ at′ ys out at (xs ++ ys)
+pub written : (at at′ : ℕ) (xs ys out out′ : List ℕ) → at′ ≡ behind at xs out → out′ ≡ overlaid at xs out → Same out′ at′ ys out at (xs ++ ys)
 unfolding behind
 written at at′ xs ys out out′ e f =
     let long : length out′ ≡ length out = rw f (length-over at xs out) in
@@ -111,16 +111,16 @@ written at at′ xs ys out out′ e f =
 
 -- one of xs is written
 pub one-written : (xs out out′ : List ℕ) (at at′ i : ℕ) → i < length xs
-    → at′ ≡ behind at (getD xs i 0 ∷ []) out → out′ ≡ over at (getD xs i 0 ∷ []) out → Same out′ at′ (drop (i + 1) xs) out at (drop i xs)
+    → at′ ≡ behind at (getD xs i 0 ∷ []) out → out′ ≡ overlaid at (getD xs i 0 ∷ []) out → Same out′ at′ (drop (i + 1) xs) out at (drop i xs)
 one-written xs out out′ at at′ i l e f =
     rw (add-one i, drop-cons xs i 0 l) (written at at′ (getD xs i 0 ∷ []) (drop (suc i) xs) out out′ e f)
 
 -- nothing is left
-pub all-written : (at at′ : ℕ) (xs out old : List ℕ) → Same out at′ [] old at xs → (at′ ≡ behind at xs old) × (out ≡ over at xs old)
+pub all-written : (at at′ : ℕ) (xs out old : List ℕ) → Same out at′ [] old at xs → (at′ ≡ behind at xs old) × (out ≡ overlaid at xs old)
 unfolding behind
 all-written at at′ xs out old s = (omega (arith, s .place), s .list ∙ stores at xs old)
 
 -- nothing to write
-pub nothing : (at : ℕ) (old : List ℕ) → (at ≡ behind at [] old) × (old ≡ over at [] old)
+pub nothing : (at : ℕ) (old : List ℕ) → (at ≡ behind at [] old) × (old ≡ overlaid at [] old)
 unfolding behind
 nothing at old = (omega arith, none-over at old)

@@ -11,7 +11,7 @@ use borrow.Author.Tests.{lt-ltb, le-ltb, ltb-true, ltb-false}
 use lib.ListN.{length, getD, drop, length-drop, drop-of-length-le}
 use lib.Seq.{drop-cons}
 use Rattle.io.specs.Digits.{glyph, digits, Fewest}
-use Rattle.lines.specs.Over.{over, behind}
+use Rattle.lines.specs.Over.{overlaid, behind}
 use Rattle.lines.specs.Text.{digitsOf, decimal, textOf}
 use Rattle.lines.proofs.Stores.{Same, then, written, all-written}
 
@@ -72,9 +72,9 @@ next-number ns i l = rw (add-one i, drop-cons ns i 0 l) (before (getD ns i 0) (d
 
 -- a number and the mark behind it are written: the text from the next number on is left
 pub number-written : (ns : List ℕ) (i : ℕ) (out₀ out₁ out₂ : List ℕ) (at₀ at₁ at₂ m : ℕ) → i < length ns
-    → at₁ ≡ behind at₀ (decimal (getD ns i 0)) out₀ → out₁ ≡ over at₀ (decimal (getD ns i 0)) out₀
+    → at₁ ≡ behind at₀ (decimal (getD ns i 0)) out₀ → out₁ ≡ overlaid at₀ (decimal (getD ns i 0)) out₀
     → m ≡ mark (ltb (i + 1) (length ns))
-    → at₂ ≡ behind at₁ (m ∷ []) out₁ → out₂ ≡ over at₁ (m ∷ []) out₁
+    → at₂ ≡ behind at₁ (m ∷ []) out₁ → out₂ ≡ overlaid at₁ (m ∷ []) out₁
     → Same out₂ at₂ (textOf (drop (i + 1) ns)) out₀ at₀ (textOf (drop i ns))
 number-written ns i out₀ out₁ out₂ at₀ at₁ at₂ m l e f g h k =
     let behind-mark = textOf (drop (i + 1) ns) in
@@ -82,7 +82,7 @@ number-written ns i out₀ out₁ out₂ at₀ at₁ at₂ m l e f g h k =
     (then (written at₁ at₂ (m ∷ []) behind-mark out₁ out₂ h k) (written at₀ at₁ (decimal (getD ns i 0)) (m ∷ behind-mark) out₀ out₁ e f))
 
 pub text-written : (ns : List ℕ) (i : ℕ) (out old : List ℕ) (at : ℕ) → length ns ≤ i → Same out at (textOf (drop i ns)) old 0 (textOf ns)
-    → (at ≡ min (length (textOf ns)) (length old)) × (out ≡ over 0 (textOf ns) old)
+    → (at ≡ min (length (textOf ns)) (length old)) × (out ≡ overlaid 0 (textOf ns) old)
 unfolding textOf behind
 text-written ns i out old at l s =
     let done = all-written 0 at (textOf ns) out old (rw (drop-of-length-le ns l) at s) in

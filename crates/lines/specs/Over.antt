@@ -6,8 +6,8 @@ use lib.Dec.{leb, ltb}
 use lib.ListN.{length, take, drop}
 
 -- xs over the old ones from place `at` on, as many as there is room for; what stands before and behind them stays
-unfoldable pub over : ℕ → List ℕ → List ℕ → List ℕ
-over at xs old = take at old ++ take (length old - at) xs ++ drop (at + length xs) old
+unfoldable pub overlaid : ℕ → List ℕ → List ℕ → List ℕ
+overlaid at xs old = take at old ++ take (length old - at) xs ++ drop (at + length xs) old
 
 -- the place behind the last one written
 unfoldable pub behind : ℕ → List ℕ → List ℕ → ℕ
@@ -24,4 +24,4 @@ fits bound ns old = leb (length ns) (length old) && allBelow bound ns
 
 -- the numbers over the old ones if all fit, and else the old ones
 unfoldable pub narrowed : ℕ → List ℕ → List ℕ → List ℕ
-narrowed bound ns old = cond (fits bound ns old) (over 0 ns old) old
+narrowed bound ns old = cond (fits bound ns old) (overlaid 0 ns old) old

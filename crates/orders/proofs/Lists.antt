@@ -11,7 +11,7 @@ use borrow.Author.Tests.{ltb-true, ltb-false, le-leb, eqb-true}
 use Rattle.words.proofs.Below.{and-both}
 use Rattle.table.specs.Limits.{base}
 use Rattle.session.specs.declared.Session.{Session}
-use Rattle.lines.specs.Over.{over, allBelow, fits, narrowed}
+use Rattle.lines.specs.Over.{overlaid, allBelow, fits, narrowed}
 use Rattle.orders.specs.Orders.{isState, stateOf}
 
 -- ---- parts
@@ -61,23 +61,23 @@ between from end first last l e f = by-test (ltb last from) refl
 -- ---- written over
 
 -- all of them, and what stood behind
-pub over-start : (ns old : List ℕ) → length ns ≤ length old → over 0 ns old ≡ ns ++ drop (length ns) old
-unfolding over
+pub over-start : (ns old : List ℕ) → length ns ≤ length old → overlaid 0 ns old ≡ ns ++ drop (length ns) old
+unfolding overlaid
 over-start ns old l =
     let all : length old - 0 ≡ length old = omega arith in
     let none : 0 + length ns ≡ length ns = omega arith in
     rw (all, none, take-all (length old) ns l)
 
 -- as many as there were
-pub over-all : (ns old : List ℕ) → length ns ≡ length old → over 0 ns old ≡ ns
+pub over-all : (ns old : List ℕ) → length ns ≡ length old → overlaid 0 ns old ≡ ns
 over-all ns old e =
     let long : length old ≤ length ns = omega arith in
     over-start ns old (omega arith) ∙ rw (drop-of-length-le old long) (append-nil ns)
 
-pub over-front : (ns old : List ℕ) → length ns ≤ length old → take (length ns) (over 0 ns old) ≡ ns
+pub over-front : (ns old : List ℕ) → length ns ≤ length old → take (length ns) (overlaid 0 ns old) ≡ ns
 over-front ns old l = rw (over-start ns old l) (take-at ns (drop (length ns) old) (length ns) refl)
 
-pub narrowed-is : (bound : ℕ) (ns old : List ℕ) → length ns ≤ length old → allBelow bound ns ≡ true → narrowed bound ns old ≡ over 0 ns old
+pub narrowed-is : (bound : ℕ) (ns old : List ℕ) → length ns ≤ length old → allBelow bound ns ≡ true → narrowed bound ns old ≡ overlaid 0 ns old
 unfolding narrowed fits
 narrowed-is bound ns old l e = rw (le-leb (length ns) (length old) l, e)
 
@@ -141,12 +141,12 @@ module _ (ns : List ℕ) (good : isState base ns ≡ true) where
   labels-read =
       narrowed-all 256 (take 256 (drop 72 ns)) (replicate 256 0) (simp (length-take, length-drop, length-replicate) (omega (arith, long))) (counts-labels .1)
 
-  payloads-read : over 0 (take 256 (drop 328 ns)) (replicate 256 0) ≡ take 256 (drop 328 ns)
+  payloads-read : overlaid 0 (take 256 (drop 328 ns)) (replicate 256 0) ≡ take 256 (drop 328 ns)
   payloads-read = over-all (take 256 (drop 328 ns)) (replicate 256 0) (simp (length-take, length-drop, length-replicate) (omega (arith, long)))
 
   -- the state that they are
   pub state-read : {h c l p hs cs ls ps : List ℕ} → h ≡ narrowed 65536 hs (replicate 8 0) → hs ≡ take 8 ns → c ≡ narrowed 256 cs (replicate 64 0)
-      → cs ≡ take 64 (drop 8 ns) → l ≡ narrowed 256 ls (replicate 256 0) → ls ≡ take 256 (drop 72 ns) → p ≡ over 0 ps (replicate 256 0)
+      → cs ≡ take 64 (drop 8 ns) → l ≡ narrowed 256 ls (replicate 256 0) → ls ≡ take 256 (drop 72 ns) → p ≡ overlaid 0 ps (replicate 256 0)
       → ps ≡ take 256 (drop 328 ns) → _≡_ {A = Session} (record { heads = h; counts = c; labels = l; payloads = p }) (stateOf base ns)
   state-read {h = h} {c = c} {l = l} {p = p} eh ehs ec ecs el els ep eps =
       let heads : h ≡ take 8 ns = eh ∙ rw ehs heads-read in
@@ -156,8 +156,8 @@ module _ (ns : List ℕ) (good : isState base ns ≡ true) where
       rw (heads, counts, labels, payloads)
 
 -- all but the first
-pub over-rest : (n : ℕ) (hs zs : List ℕ) → length hs ≡ length zs → over 1 hs (n ∷ zs) ≡ n ∷ hs
-unfolding over
+pub over-rest : (n : ℕ) (hs zs : List ℕ) → length hs ≡ length zs → overlaid 1 hs (n ∷ zs) ≡ n ∷ hs
+unfolding overlaid
 over-rest n hs zs e =
     let all : length (n ∷ zs) - 1 ≡ length hs = omega arith in
     let few : length (n ∷ zs) ≤ 1 + length hs = omega arith in

@@ -12,7 +12,7 @@ use Rattle.table.specs.Limits.{base}
 use Rattle.lines.specs.declared.read.Count.{Count}
 use Rattle.lines.specs.declared.read.Count.the-variants.{Of, Malformed}
 use Rattle.lines.specs.Line.{wellFormed, numbersOf, countOf}
-use Rattle.lines.specs.Over.{over}
+use Rattle.lines.specs.Over.{overlaid}
 use Rattle.lines.proofs.Counting.{few-numbers}
 use Rattle.orders.specs.Orders.{Kept, isCall, callOrder, orderOf}
 use Rattle.orders.specs.Lines.{isLine, replyTo}
@@ -48,11 +48,11 @@ module _ (line old : List ℕ) (long : length old ≡ 65536) where
         let h = rw (long, a-line) at e in
         cc
 
-    pub numbers-read : (new : List ℕ) → new ≡ cond (leb (length line) (length old)) (over 0 (numbersOf line) old) old → take n new ≡ numbersOf line
+    pub numbers-read : (new : List ℕ) → new ≡ cond (leb (length line) (length old)) (overlaid 0 (numbersOf line) old) old → take n new ≡ numbersOf line
     numbers-read new g =
         let short : leb (length line) 65536 ≡ true = and-both (leb (length line) 65536) (wellFormed line) a-line .0 in
         let all : length (numbersOf line) ≤ length old = omega (arith, leb-true (length line) 65536 short, few-numbers line) in
-        let there : new ≡ over 0 (numbersOf line) old = g ∙ rw (long, short) in
+        let there : new ≡ overlaid 0 (numbersOf line) old = g ∙ rw (long, short) in
         rw (counted, there) (over-front (numbersOf line) old all)
 
 -- the order that a line is; the letter 0 stands for a malformed one

@@ -7,7 +7,7 @@ use native.Mathlib.Omega.{arith}
 use lib.Dec.{ltb}
 use lib.ListN.{length, take, drop, set, length-append}
 use lib.Seq.{take-all, take-at, take-append-le, length-take-le}
-use Rattle.lines.specs.Over.{over, behind}
+use Rattle.lines.specs.Over.{overlaid, behind}
 use Rattle.lines.specs.Text.{digitsOf, decimal, textOf}
 use Rattle.lines.proofs.Stores.{length-over}
 use Rattle.orders.specs.Orders.{Kept}
@@ -24,8 +24,8 @@ asked (a ∷ b ∷ text) l = refl
 
 -- the first n of xs and then ys
 pub both-put : (xs ys old one two : List ℕ) (n r : ℕ) → n ≤ length xs → length xs + length ys ≤ length old
-    → one ≡ over 0 xs old → two ≡ over n ys one → r ≡ behind n ys one → take r two ≡ take n xs ++ ys
-unfolding behind over
+    → one ≡ overlaid 0 xs old → two ≡ overlaid n ys one → r ≡ behind n ys one → take r two ≡ take n xs ++ ys
+unfolding behind overlaid
 both-put xs ys old one two n r l room e f g =
     let long : length one ≡ length old = rw e (length-over 0 xs old) in
     let front : take n one ≡ take n xs = rw (e, over-start xs old (omega arith)) (take-append-le n xs (drop (length xs) old) l) in
@@ -34,7 +34,7 @@ both-put xs ys old one two n r l room e f g =
     let count : length (take n xs ++ ys) ≡ r = rw (length-append (take n xs) ys, length-take-le n xs l) (omega arith) in
     rw two-is (take-at (take n xs ++ ys) (drop (n + length ys) one) r count)
   where
-    opened : (one : List ℕ) → take n one ≡ take n xs → take (length one - n) ys ≡ ys → over n ys one ≡ (take n xs ++ ys) ++ drop (n + length ys) one
+    opened : (one : List ℕ) → take n one ≡ take n xs → take (length one - n) ys ≡ ys → overlaid n ys one ≡ (take n xs ++ ys) ++ drop (n + length ys) one
     opened one h i = rw (h, i)
 
 -- ---- the text
@@ -70,7 +70,7 @@ worded-some [] l = absurd (omega arith)
 worded-some (n ∷ ns) l = refl
 
 pub text-put : (ns old out : List ℕ) (r : ℕ) → 0 < length ns → length ns * 11 ≤ length old
-    → r ≡ min (length (textOf ns)) (length old) → out ≡ over 0 (textOf ns) old → (take r out ≡ worded ns) × (r ≡ length (worded ns))
+    → r ≡ min (length (textOf ns)) (length old) → out ≡ overlaid 0 (textOf ns) old → (take r out ≡ worded ns) × (r ≡ length (worded ns))
 text-put ns old out r some room e f =
     let all : length (textOf ns) ≤ length old = omega (arith, text-long ns) in
     let long : r ≡ length (textOf ns) = omega arith in

@@ -33,7 +33,7 @@ struct Given {
 }
 
 // The line is taken apart, and its numbers stored.
-fn taken(line: &[u8], numbers: &mut [u32]) -> Given
+fn split_line(line: &[u8], numbers: &mut [u32]) -> Given
     requires { ⌜ length (now numbers) ≡ 65536 ⌝ }
     ensures { λ r. ⌜ (r .letter ≡ cond (isLine (now (line .entry))) (getD (now (line .entry)) 0 0) 0)
         × (take (r .count) (now (numbers .exit)) ≡ cond (isLine (now (line .entry))) (numbersOf (now (line .entry))) []) ⌝ }
@@ -75,7 +75,7 @@ pub fn answer(
 ) -> Answered
     ensures { λ r. ⌜ Answers base run (now (tables .entry)) (now (line .entry)) r (now (tables .exit)) (now (text .exit)) ⌝ }
 {
-    let given = taken(line, numbers);
+    let given = split_line(line, numbers);
     let said = order(given.letter, run, read::upto(numbers, given.count), tables);
     shown::show(said, tables, text)
 }

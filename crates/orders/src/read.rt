@@ -5,7 +5,7 @@ ghost use mathlib.Core.Bool.{true};
 ghost use Prim.Native.Nat.{_+_, _-_};
 ghost use lib.ListN.{getD, take, drop, replicate};
 ghost use Rattle.table.specs.Limits.{base};
-ghost use Rattle.lines.specs.Over.{over, fits, narrowed};
+ghost use Rattle.lines.specs.Over.{overlaid, fits, narrowed};
 ghost use Rattle.orders.specs.Orders.{pairs, slots, stateOf, isState};
 
 // The numbers of a state: heads, counts, labels, payloads, each from the end of those before.
@@ -129,7 +129,7 @@ fn labels_of(numbers: &[u32]) -> [u8; Session::SLOTS]
 }
 
 fn payloads_of(numbers: &[u32]) -> [u32; Session::SLOTS]
-    ensures { λ r. ⌜ r ≡ over 0 (now (numbers .entry)) (replicate (slots base) 0) ⌝ }
+    ensures { λ r. ⌜ r ≡ overlaid 0 (now (numbers .entry)) (replicate (slots base) 0) ⌝ }
 {
     let mut payloads = [0u32; Session::SLOTS];
     lines::copy(numbers, &mut payloads);

@@ -20,48 +20,48 @@ use Rattle.table.specs.Above.{times, timesNamed, namer}
 use Rattle.table.specs.Rules.{namedBroken}
 use Rattle.table.specs.mirror.Names.{nearLink, farLink}
 use Rattle.table.proofs.Links.{times-links}
-use Rattle.rules.specs.mirror.Names.{places, put, Namers, Counts}
+use Rattle.rules.specs.mirror.Names.{places, placed, Namers, Counts}
 
 -- ---- one store
 
-pub put-length : (l : List ℕ) (j x : ℕ) → length (put l j x) ≡ length l
+pub put-length : (l : List ℕ) (j x : ℕ) → length (placed l j x) ≡ length l
 put-length l j x = go (ltb j places)
   where
     go : (b : Bool) → length (cond b (set l j x) l) ≡ length l
     go true = length-set l j x
     go false = refl
 
-put-same : (l : List ℕ) (j x : ℕ) → length l ≡ places → j < places → getD (put l j x) j 0 ≡ x
+put-same : (l : List ℕ) (j x : ℕ) → length l ≡ places → j < places → getD (placed l j x) j 0 ≡ x
 put-same l j x e h = rw (lt-ltb j places h) (getD-set-same l j x 0 (omega arith))
 
-put-other : (l : List ℕ) (i j x : ℕ) → i ≢ j → getD (put l j x) i 0 ≡ getD l i 0
+put-other : (l : List ℕ) (i j x : ℕ) → i ≢ j → getD (placed l j x) i 0 ≡ getD l i 0
 put-other l i j x h = go (ltb j places)
   where
     go : (b : Bool) → getD (cond b (set l j x) l) i 0 ≡ getD l i 0
     go true = getD-set-other l j i x 0 h
     go false = refl
 
-put-at : (l : List ℕ) (i j x : ℕ) → length l ≡ places → i < places → getD (put l j x) i 0 ≡ cond (eqb i j) x (getD l i 0)
+put-at : (l : List ℕ) (i j x : ℕ) → length l ≡ places → i < places → getD (placed l j x) i 0 ≡ cond (eqb i j) x (getD l i 0)
 put-at l i j x e h = go (ℕ-discrete i j)
   where
-    go : Dec (i ≡ j) → getD (put l j x) i 0 ≡ cond (eqb i j) x (getD l i 0)
+    go : Dec (i ≡ j) → getD (placed l j x) i 0 ≡ cond (eqb i j) x (getD l i 0)
     go (yes q) = rw (← q, eq-eqb i i refl) (put-same l i x e h)
     go (no q) = rw (ne-eqb i j q) (put-other l i j x q)
 
-put-more : (l : List ℕ) (i j : ℕ) → length l ≡ places → i < places → getD (put l j (getD l j 0 + 1)) i 0 ≡ getD l i 0 + one (eqb i j)
+put-more : (l : List ℕ) (i j : ℕ) → length l ≡ places → i < places → getD (placed l j (getD l j 0 + 1)) i 0 ≡ getD l i 0 + one (eqb i j)
 put-more l i j e h = go (ℕ-discrete i j)
   where
-    go : Dec (i ≡ j) → getD (put l j (getD l j 0 + 1)) i 0 ≡ getD l i 0 + one (eqb i j)
+    go : Dec (i ≡ j) → getD (placed l j (getD l j 0 + 1)) i 0 ≡ getD l i 0 + one (eqb i j)
     go (yes q) = rw (← q, eq-eqb i i refl) (put-same l i (getD l i 0 + 1) e h)
     go (no q) = rw (ne-eqb i j q, put-other l i j (getD l j 0 + 1) q) (omega arith)
 
-pub put-bound : (l : List ℕ) (i j : ℕ) → length l ≡ places → getD (put l j (getD l j 0 + 1)) i 0 ≤ getD l i 0 + 1
+pub put-bound : (l : List ℕ) (i j : ℕ) → length l ≡ places → getD (placed l j (getD l j 0 + 1)) i 0 ≤ getD l i 0 + 1
 put-bound l i j e = go (ℕ-discrete i j) (decLt i places)
   where
-    go : Dec (i ≡ j) → Dec (i < places) → getD (put l j (getD l j 0 + 1)) i 0 ≤ getD l i 0 + 1
+    go : Dec (i ≡ j) → Dec (i < places) → getD (placed l j (getD l j 0 + 1)) i 0 ≤ getD l i 0 + 1
     go (yes q) (yes h) = rw (← q, put-same l i (getD l i 0 + 1) e h) (omega arith)
     go (yes q) (no h) =
-        rw (List·getD-eq-default (put l j (getD l j 0 + 1)) 0 {n = i} (rw (put-length l j (getD l j 0 + 1)) (omega arith))) (omega arith)
+        rw (List·getD-eq-default (placed l j (getD l j 0 + 1)) 0 {n = i} (rw (put-length l j (getD l j 0 + 1)) (omega arith))) (omega arith)
     go (no q) h = rw (put-other l i j (getD l j 0 + 1) q) (omega arith)
 
 -- ---- the pass
@@ -114,16 +114,16 @@ low-step false false k p x false q h = rw (le-ltb (suc p) (suc p) (omega arith))
 
 -- one more link is counted
 abbrev more : List ℕ → ℕ → List ℕ
-more l j = put l j (getD l j 0 + 1)
+more l j = placed l j (getD l j 0 + 1)
 
 module _ (t by count : List ℕ) (p near far : ℕ) (small : rowsOf t ≤ base .rows) (en : near ≡ nearLink (row t p)) (ef : far ≡ farLink (row t p))
     (f : Filling t by count (suc p)) where
-  step-low : (i : ℕ) → 0 < i → i ≤ rowsOf t → lowestOr t i p (getD (put (put by near p) far p) i 0) ≡ namer t i
+  step-low : (i : ℕ) → 0 < i → i ≤ rowsOf t → lowestOr t i p (getD (placed (placed by near p) far p) i 0) ≡ namer t i
   unfolding lowest
   step-low i l m =
       let q : i < places = omega arith in
       let k = lowest (λ q. ltb 0 (times i (links (row t q)))) p in
-      rw (put-at (put by near p) i far p (put-length by near p ∙ f .by-length) q, put-at by i near p (f .by-length) q)
+      rw (put-at (placed by near p) i far p (put-length by near p ∙ f .by-length) q, put-at by i near p (f .by-length) q)
       (sym (low-step (eqb i near) (eqb i far) k p (getD by i 0) (ltb k p) refl (lowest-le _ p))
       ∙ (rw (← ones (eqb i near) (eqb i far), en, ef, ← times-links i l (row t p)) (f .low i l m)))
 
@@ -145,9 +145,9 @@ module _ (t by count : List ℕ) (p near far : ℕ) (small : rowsOf t ≤ base .
         put-bound (more count near) i far (put-length count near (getD count near 0 + 1) ∙ f .count-length),
       )
 
-  pub filling-step : Filling t (put (put by near p) far p) (more (more count near) far) p
+  pub filling-step : Filling t (placed (placed by near p) far p) (more (more count near) far) p
   filling-step = record {
-    by-length = put-length (put by near p) far p ∙ (put-length by near p ∙ f .by-length);
+    by-length = put-length (placed by near p) far p ∙ (put-length by near p ∙ f .by-length);
     count-length = put-length (more count near) far (getD (more count near) far 0 + 1) ∙ (put-length count near (getD count near 0 + 1) ∙ f .count-length);
     low = step-low;
     all = step-all;
@@ -157,7 +157,7 @@ module _ (t by count : List ℕ) (p near far : ℕ) (small : rowsOf t ≤ base .
 -- the same as the loop has it
 pub filling-turn : (t by count by1 count1 by2 count2 : List ℕ) (q near far p : ℕ) → rowsOf t ≤ base .rows → 0 < q
     → near ≡ nearLink (row t (q - 1)) → far ≡ farLink (row t (q - 1)) → p ≡ q - 1
-    → (by1 ≡ put by near p) × (count1 ≡ more count near) → (by2 ≡ put by1 far p) × (count2 ≡ more count1 far)
+    → (by1 ≡ placed by near p) × (count1 ≡ more count near) → (by2 ≡ placed by1 far p) × (count2 ≡ more count1 far)
     → Filling t by count q → Filling t by2 count2 (q - 1)
 filling-turn t by count by1 count1 by2 count2 q near far p small h en ef ep e1 e2 f =
     let e : q ≡ suc (q - 1) = omega arith in

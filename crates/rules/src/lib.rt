@@ -23,7 +23,7 @@ ghost use Rattle.table.specs.Above.{above, loops as loopsOf};
 ghost use Rattle.table.specs.Rules.{namedBroken, unboundBroken, unguardedBroken, rules as rulesInOrder};
 ghost use Rattle.table.specs.Check.{accepted, tested, Checks};
 ghost use Rattle.table.specs.mirror.Names.{Rising, nearLoops};
-ghost use Rattle.rules.specs.mirror.Names.{Small, places, put, Namers, Counts, Around, Filled};
+ghost use Rattle.rules.specs.mirror.Names.{FewRows, places, placed, Namers, Counts, Around, Filled};
 ghost use Rattle.rules.specs.mirror.Chain.{repeatedOf, chainOf};
 ghost use Rattle.rules.specs.mirror.Blame.{ruleOf, blames, least};
 
@@ -42,7 +42,7 @@ struct Named {
 // The row names `to`: a place past the last is no row's, and is left out.
 fn name(by: &mut [u16; PLACES], times: &mut [u16; PLACES], to: usize, row: u16)
     requires { ⌜ getD (now times) to 0 < 65535 ⌝ }
-    ensures { λ _. ⌜ (now (by .exit) ≡ put (now (by .entry)) to row) × (now (times .exit) ≡ put (now (times .entry)) to (getD (now (times .entry)) to 0 + 1)) ⌝ }
+    ensures { λ _. ⌜ (now (by .exit) ≡ placed (now (by .entry)) to row) × (now (times .exit) ≡ placed (now (times .entry)) to (getD (now (times .entry)) to 0 + 1)) ⌝ }
 {
     if to < PLACES {
         by[to] = row;
@@ -60,7 +60,7 @@ fn narrow(row: usize) -> u16
 
 // Rows are taken from the last to the first, so the lowest that names a row is written last.
 fn name_rows(words: &[u16]) -> Named
-    requires { ⌜ Small (now words) ⌝ }
+    requires { ⌜ FewRows (now words) ⌝ }
     ensures { λ r. ⌜ (Namers (now (words .entry)) (r .by)) × (Counts (now (words .entry)) (r .times)) ⌝ }
 {
     let mut row = words.len() / 4;
@@ -83,7 +83,7 @@ fn name_rows(words: &[u16]) -> Named
 
 // A row but 0 not named exactly once.
 fn named_broken(words: &[u16], times: &[u16; PLACES], row: usize) -> bool
-    requires { ⌜ (Small (now words)) × (row < rowsOf (now words)) × (Counts (now words) (now times)) ⌝ }
+    requires { ⌜ (FewRows (now words)) × (row < rowsOf (now words)) × (Counts (now words) (now times)) ⌝ }
     ensures { λ r. ⌜ r ≡ namedBroken (now (words .entry)) row ⌝ }
 {
     (row != 0) & (times[row] != 1)
@@ -161,7 +161,7 @@ fn stand_under(
 // Rows are taken from the first to the last, so the places of the row over each are filled before its own. Over a row that nobody names is
 // the place after the last row.
 fn count_loops(words: &[u16], by: &[u16; PLACES]) -> Loops
-    requires { ⌜ (Small (now words)) × (Namers (now words) (now by)) ⌝ }
+    requires { ⌜ (FewRows (now words)) × (Namers (now words) (now by)) ⌝ }
     ensures { λ r. ⌜ Around (now (words .entry)) (r .around) (r .near) ⌝ }
 {
     let rows = words.len() / 4;
@@ -258,7 +258,7 @@ fn lowest(
 // Rules 4 to 10 in order, each over all rows. Who names each row is found once, in one pass, and how many Loops stand around it in a
 // second. A rule then looks at each row once, TWICE also at each two arms of a chain. So the time of each other rule is linear in the rows.
 fn rules(words: &[u16], roles: usize) -> Verdict
-    requires { ⌜ Small (now words) ⌝ }
+    requires { ⌜ FewRows (now words) ⌝ }
     ensures { λ r. ⌜ r ≡ tested base (now (words .entry)) roles rulesInOrder accepted ⌝ }
 {
     let rows = words.len() / 4;

@@ -68,6 +68,6 @@ module _ (ts : List ℕ) (roles : ℕ) (s : Session) {w : Waiting} (read : w ≡
           → record { number = w .number; set = w .set; count = ones (w .set); lowest = trailingZeros 8 (w .set); state = s } ≡ awaits ts roles s a b
       decide true true good e =
           let b = sized-bounds ts roles (blockRows ts roles) (good-sized ts roles good) in
-          rw (e, set-count (isAwaited base ts roles s) roles, set-least (isAwaited base ts roles s) roles (b .1))
+          rw (e, set-count (isAwaited base ts roles s) roles, set-least 8 (isAwaited base ts roles s) roles (b .1))
       decide true false good e = rw e refl
       decide false b good e = rw e refl

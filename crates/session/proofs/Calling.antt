@@ -26,16 +26,16 @@ module _ (ts : List ℕ) (roles p q : ℕ) (s : Session) where
   afterSend l v (Refused n) = answers n s
   afterSend l v (To h) = answers 0 (moved (pushed base s p q l v) p h)
 
-  send-unless : (l v n : ℕ) (b : Bool) (rest : Turn) → afterSend l v (cond b (Refused n) rest) ≡ unless n b s (afterSend l v rest)
-  send-unless l v n true rest = refl
-  send-unless l v n false rest = refl
+  send-refused : (l v n : ℕ) (b : Bool) (rest : Turn) → afterSend l v (cond b (Refused n) rest) ≡ unless n b s (afterSend l v rest)
+  send-refused l v n true rest = refl
+  send-refused l v n false rest = refl
 
   send-arm : (l v : ℕ) (o : Option ℕ)
       → afterSend l v (sendFound base ts (p * blockRows ts roles) (blockRows ts roles) (held base s p q) o) ≡ sendArm base ts roles p q l v s o
   unfolding sendFound sendArm
   send-arm l v none = refl
   send-arm l v (some c) =
-      send-unless l v 17 (leb 4 (held base s p q)) (To (followAt (blockRows ts roles) ts (p * blockRows ts roles) c)) ∙ rw (head-at ts roles p c)
+      send-refused l v 17 (leb 4 (held base s p q)) (To (followAt (blockRows ts roles) ts (p * blockRows ts roles) c)) ∙ rw (head-at ts roles p c)
 
   send-row : (l v : ℕ) (row : PartRow)
       → afterSend l v (sendTurn base ts (p * blockRows ts roles) (blockRows ts roles) q l (held base s p q) row) ≡ sendAt base ts roles p q l v s row
@@ -46,7 +46,7 @@ module _ (ts : List ℕ) (roles p q : ℕ) (s : Session) where
   send-row l v (Back j x y) = refl
   send-row l v (Send peer f x) =
       rw (arms-at ts roles p f)
-      (send-unless l v 15 (not (eqb peer q)) (sendFound base ts (p * blockRows ts roles) (blockRows ts roles) (held base s p q) (find l (chainAt (blockRows ts roles) ts (p * blockRows ts roles) f)))
+      (send-refused l v 15 (not (eqb peer q)) (sendFound base ts (p * blockRows ts roles) (blockRows ts roles) (held base s p q) (find l (chainAt (blockRows ts roles) ts (p * blockRows ts roles) f)))
       ∙ ap (unless 15 (not (eqb peer q)) s) (send-arm l v (find l (chainAt (blockRows ts roles) ts (p * blockRows ts roles) f))))
   send-row l v (Receive peer f x) = refl
   send-row l v Other = refl
@@ -55,20 +55,20 @@ module _ (ts : List ℕ) (roles p q : ℕ) (s : Session) where
   unfolding sendJudged sendOf
   after-send l v =
       let rest = sendTurn base ts (p * blockRows ts roles) (blockRows ts roles) q l (held base s p q) (partRow ts roles p (headOf s p)) in
-      send-unless l v 12 (not (tablesGood base ts roles)) _
+      send-refused l v 12 (not (tablesGood base ts roles)) _
       ∙ ap (unless 12 (not (tablesGood base ts roles)) s)
-      (send-unless l v 13 (not (stateGood base ts roles s)) _
+      (send-refused l v 13 (not (stateGood base ts roles s)) _
       ∙ ap (unless 13 (not (stateGood base ts roles s)) s)
-      (send-unless l v 14 (not (arePair roles p q)) rest
+      (send-refused l v 14 (not (arePair roles p q)) rest
       ∙ ap (unless 14 (not (arePair roles p q)) s) (send-row l v (partRow ts roles p (headOf s p)))))
 
   abbrev pub afterReceive : Turn → Answer
   afterReceive (Refused n) = answers n s
   afterReceive (To h) = received base s p q h
 
-  receive-unless : (n : ℕ) (b : Bool) (rest : Turn) → afterReceive (cond b (Refused n) rest) ≡ unless n b s (afterReceive rest)
-  receive-unless n true rest = refl
-  receive-unless n false rest = refl
+  receive-refused : (n : ℕ) (b : Bool) (rest : Turn) → afterReceive (cond b (Refused n) rest) ≡ unless n b s (afterReceive rest)
+  receive-refused n true rest = refl
+  receive-refused n false rest = refl
 
   receive-arm : (o : Option ℕ)
       → afterReceive (receiveFound ts (q * blockRows ts roles) (blockRows ts roles) o) ≡ receiveArm base ts roles p q s o
@@ -87,18 +87,18 @@ module _ (ts : List ℕ) (roles p q : ℕ) (s : Session) where
   receive-row (Receive peer f x) =
       let o = find (labelAt base s p q 0) (chainAt (blockRows ts roles) ts (q * blockRows ts roles) f) in
       rw (arms-at ts roles q f)
-      (receive-unless 15 (not (eqb peer p)) _
+      (receive-refused 15 (not (eqb peer p)) _
       ∙ ap (unless 15 (not (eqb peer p)) s)
-      (receive-unless 18 (eqb (held base s p q) 0) _ ∙ ap (unless 18 (eqb (held base s p q) 0) s) (receive-arm o)))
+      (receive-refused 18 (eqb (held base s p q) 0) _ ∙ ap (unless 18 (eqb (held base s p q) 0) s) (receive-arm o)))
   receive-row Other = refl
 
   pub after-receive : afterReceive (receiveJudged base ts roles p q (listed s)) ≡ receiveOf base ts roles p q s
   unfolding receiveJudged receiveOf
   after-receive =
       let rest = receiveTurn ts (q * blockRows ts roles) (blockRows ts roles) p (held base s p q) (labelAt base s p q 0) (partRow ts roles q (headOf s q)) in
-      receive-unless 12 (not (tablesGood base ts roles)) _
+      receive-refused 12 (not (tablesGood base ts roles)) _
       ∙ ap (unless 12 (not (tablesGood base ts roles)) s)
-      (receive-unless 13 (not (stateGood base ts roles s)) _
+      (receive-refused 13 (not (stateGood base ts roles s)) _
       ∙ ap (unless 13 (not (stateGood base ts roles s)) s)
-      (receive-unless 14 (not (arePair roles p q)) rest
+      (receive-refused 14 (not (arePair roles p q)) rest
       ∙ ap (unless 14 (not (arePair roles p q)) s) (receive-row (partRow ts roles q (headOf s q)))))

@@ -30,8 +30,8 @@ abbrev pub unless : ℕ → Bool → Session → Answer → Answer
 unless n broken s rest = cond broken (answers n s) rest
 
 -- rules 12, 13 and 14, then the rest
-abbrev pub standing : Limits → List ℕ → ℕ → ℕ → ℕ → Session → Answer → Answer
-standing lim ts roles p q s rest =
+abbrev pub judged : Limits → List ℕ → ℕ → ℕ → ℕ → Session → Answer → Answer
+judged lim ts roles p q s rest =
     unless TABLES (not (tablesGood lim ts roles)) s (
     unless STATE (not (stateGood lim ts roles s)) s (
     unless PARTY (not (arePair roles p q)) s rest))
@@ -77,7 +77,7 @@ sendAt lim ts roles p q l v s Other = answers TURN s
 unfoldable pub sendOf : Limits → List ℕ → ℕ → ℕ → ℕ → ℕ → ℕ → Session → Answer
 unfolding sendAt tablesGood lists.stateGood
 sendOf lim ts roles p q l v s =
-    standing lim ts roles p q s (sendAt lim ts roles p q l v s (partRow ts roles p (headOf s p)))
+    judged lim ts roles p q s (sendAt lim ts roles p q l v s (partRow ts roles p (headOf s p)))
 
 -- rule 19: q receives from p; `found` is the continuation of the head's arm with the first held label
 unfoldable pub receiveArm : Limits → List ℕ → ℕ → ℕ → ℕ → Session → Option ℕ → Answer
@@ -102,4 +102,4 @@ receiveAt lim ts roles p q s Other = answers TURN s
 unfoldable pub receiveOf : Limits → List ℕ → ℕ → ℕ → ℕ → Session → Answer
 unfolding receiveAt tablesGood lists.stateGood
 receiveOf lim ts roles p q s =
-    standing lim ts roles p q s (receiveAt lim ts roles p q s (partRow ts roles q (headOf s q)))
+    judged lim ts roles p q s (receiveAt lim ts roles p q s (partRow ts roles q (headOf s q)))

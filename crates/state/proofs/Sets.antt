@@ -63,17 +63,17 @@ least-lowest p zero d = refl
 least-lowest p (suc n) d =
     least-lowest p n (cond (p n) n d) ∙ least-step (lowest p n) n d (ltb (lowest p n) n) (p n) refl
 
--- the zeros below the lowest 1 are the lowest number of the set; an empty set of 8 digits has 8
-pub set-least : (p : ℕ → Bool) (n : ℕ) → n ≤ 8 → trailingZeros 8 (setOf p n) ≡ cond (ltb (lowest p n) n) (lowest p n) 8
-set-least p n l =
-    ap (trailingZeros 8) (omega (arith, zero-mul (2 ^ n))) ∙ tz-set p n 8 0 8 l (rw zero-mul (trailing-of-zero 8))
-    ∙ least-lowest p n 8
+-- the zeros below the lowest 1 are the lowest number of the set; an empty set of w digits has w
+pub set-least : (w : ℕ) (p : ℕ → Bool) (n : ℕ) → n ≤ w → trailingZeros w (setOf p n) ≡ cond (ltb (lowest p n) n) (lowest p n) w
+set-least w p n l =
+    ap (trailingZeros w) (omega (arith, zero-mul (2 ^ n))) ∙ tz-set p n w 0 w l (rw zero-mul (trailing-of-zero w))
+    ∙ least-lowest p n w
 
--- n joins the numbers below it, in a word of 8 digits
-pub set-or : (p : ℕ → Bool) (n : ℕ) → n < 8 → p n ≡ true → bitOr (setOf p n) (1 * 2 ^ n % 2 ^ 8) ≡ setOf p (suc n)
+-- n joins the numbers below it, in a word of w digits
+pub set-or : (w : ℕ) (p : ℕ → Bool) (n : ℕ) → n < w → p n ≡ true → bitOr (setOf p n) (1 * 2 ^ n % 2 ^ w) ≡ setOf p (suc n)
 unfolding sum
-set-or p n l e =
-    rw (shl-exact {a = 1} 1 n 8 (omega arith) (omega arith), or-shifted-r 1 n (setOf p n) (set-lt p n), e)
+set-or w p n l e =
+    rw (shl-exact {a = 1} 1 n w (omega arith) (omega arith), or-shifted-r 1 n (setOf p n) (set-lt p n), e)
     (add-comm (1 * 2 ^ n) (setOf p n))
 
 pub set-not : (p : ℕ → Bool) (n : ℕ) → p n ≡ false → setOf p n ≡ setOf p (suc n)

@@ -152,6 +152,6 @@ pub fn state_good<'a>(
     requires { ⌜ (rows ≡ blockRows (now tables) roles) × (rows ≤ base .rows) ⌝ }
     ensures { λ r. ⌜ r ≡ stateGood base (now (tables .entry)) roles (stateOf (now (heads .entry)) (now (counts .entry)) (now (labels .entry)) (now (payloads .entry))) ⌝ }
 {
-    let standing = heads_good(tables, roles, rows, heads);
-    standing & queues_good(roles, counts, labels, payloads)
+    let stand = heads_good(tables, roles, rows, heads);
+    stand & queues_good(roles, counts, labels, payloads)
 }

@@ -10,7 +10,9 @@ use borrow.Author.Tests.{lt-ltb, ne-eqb}
 use Rattle.words.specs.Rows.{word}
 use Rattle.table.specs.Rows.{Row, End, Arm, Back, Other, rowOf, row, isArm, isLoop}
 use Rattle.table.specs.Rules.{kindBroken, ofBack}
+use Rattle.table.specs.declared.Row as read
 use Rattle.table.specs.mirror.Names.{farLink}
+use Rattle.table.specs.mirror.Read.{fourWords}
 
 pub row-other : (k a b c : ℕ) → 4 < k → rowOf k a b c ≡ Other
 row-other zero a b c h = absurd (omega arith)
@@ -85,3 +87,8 @@ arm-third k a b c e = ap farLink (sym (arm-words k a b c (ap isArm e))) ∙ ap f
 
 pub arm-row : (t : List ℕ) (x : ℕ) → isArm (row t x) ≡ true → row t x ≡ Arm (word t x 1) (word t x 2) (word t x 3)
 arm-row t x e = arm-words (word t x 0) (word t x 1) (word t x 2) (word t x 3) e
+
+-- what was read of a row says the row
+pub row-read : (t : List ℕ) (i : ℕ) {w : read.Row} → w ≡ fourWords t i → row t i ≡ rowOf (w .kind) (w .first) (w .second) (w .third)
+unfolding fourWords
+row-read t i e = rw e

@@ -16,7 +16,7 @@ times i (j ∷ js) = one (eqb i j) + times i js
 abbrev pub timesNamed : List ℕ → ℕ → ℕ
 timesNamed t i = sum (λ p. times i (links (row t p))) (rowsOf t)
 
--- the row that names row i: the lowest one with a link to it
+-- the row that names row i: the lowest one with a link to it; the number of rows where none has
 abbrev pub namer : List ℕ → ℕ → ℕ
 namer t i = lowest (λ p. ltb 0 (times i (links (row t p)))) (rowsOf t)
 
@@ -56,8 +56,8 @@ unfoldable pub loops : List ℕ → List ℕ → ℕ
 loops t [] = 0
 loops t (p ∷ ps) = one (isLoop (row t p)) + loops t ps
 
--- the first of these rows that is no Loop comes after the Loop of depth d, or there is none: going up from a Back, only
--- Loops are met until its own Loop
+-- the first d + 1 of these rows are Loops: going up from a Back of depth d, only Loops are met until its own Loop. False where there
+-- are fewer rows
 unfoldable pub onlyLoops : List ℕ → ℕ → List ℕ → Bool
 onlyLoops t d [] = false
 onlyLoops t zero (p ∷ ps) = isLoop (row t p)

@@ -1,4 +1,4 @@
--- Document 01, 'What the coordinator holds': the limits. Every definition takes them as a parameter. Assumes nothing.
+-- Document 01, 'What the coordinator holds': the limits. A definition that depends on them takes them as a parameter. Assumes nothing.
 use Prim.Native.Nat.{ℕ}
 
 pub record Limits : Type 0 where

@@ -3,16 +3,14 @@ use words::wide;
 use words::word;
 ghost use mathlib.Core.Path.{_≡_};
 ghost use Rattle.table.specs.Limits.{base};
-ghost use Rattle.table.specs.Rows.{row as rowAt, rowOf};
+ghost use Rattle.table.specs.Rows.{row as rowAt};
 ghost use Rattle.table.specs.Rules.{kindBroken, fieldBroken, toArm, toOther, linkBroken};
 ghost use Rattle.table.specs.Check.{Sizes};
 ghost use Rattle.table.specs.mirror.Names.{nearLink, farLink};
+ghost use Rattle.table.specs.mirror.Read.{fourWords};
 
-// The size of a table whose words are lent beside it.
-pub struct Table {
-    pub roles: usize,
-    pub rows: usize,
-}
+// A protocol table: its limits. Its words are lent.
+pub struct Table {}
 
 impl Table {
     // A protocol has from FEWEST_ROLES to ROLES roles.
@@ -103,7 +101,7 @@ impl Row {
 
 // A row as it is read; past the end its words are 0. One test serves all four words of a row inside.
 pub fn read(words: &[u16], row: usize) -> Row
-    ensures { λ r. ⌜ rowAt (now (words .entry)) row ≡ rowOf (r .kind) (r .first) (r .second) (r .third) ⌝ }
+    ensures { λ r. ⌜ r ≡ fourWords (now (words .entry)) row ⌝ }
 {
     if row < words.len() / 4 {
         let at = row * 4;

@@ -13,6 +13,9 @@ use Rattle.blocks.specs.declared.rows.Found.the-variants.{At, Nothing}
 abbrev pub words : List ℕ → ℕ → Row
 words ts at = record { kind = word ts at 0; first = word ts at 1; second = word ts at 2; third = word ts at 3 }
 
+abbrev pub noWords : Row
+noWords = record { kind = 0; first = 0; second = 0; third = 0 }
+
 -- what a row's words say
 abbrev pub said : Row → PartRow
 said w = partRowOf (w .kind) (w .first) (w .second) (w .third)

@@ -10,8 +10,8 @@ use Rattle.orders.proofs.Replies.{told-as}
 use Rattle.orders.proofs.answer.Statement.{statement}
 use Rattle.orders.proofs.answer.Tie as tie
 
-taken-requires : tie.Need-taken-requires
-taken-requires c κs = search needs
+split-line-requires : tie.Need-split-line-requires
+split-line-requires c κs = search needs
 
 upto-requires : tie.Need-upto-requires
 upto-requires c κs = search needs
@@ -25,11 +25,11 @@ show-requires c κs = search needs
 returns : tie.Need-returns
 unfolding answerOf
 returns c =
-    let taken = c .before .before .before .before .before .before .before .before .before .taken .ensures in
-    let said = told-as (the-order _ _ _ _ (taken .0) (c .before .before .before .before .before .before .upto .ensures ∙ taken .1)) (c .before .before .before .before .order .ensures) in
+    let split = c .before .before .before .before .before .before .before .before .before .split-line .ensures in
+    let said = told-as (the-order _ _ _ _ (split .0) (c .before .before .before .before .before .before .upto .ensures ∙ split .1)) (c .before .before .before .before .order .ensures) in
     let (put, count) = c .show .ensures in
     (put ∙ ap written (said .reply), count ∙ ap (λ (r : Reply). length (worded (r .numbers))) (said .reply))
 
 pub answer-spec : {M : Type 1} → statement M
 answer-spec =
-    tie.close (tie.spec taken-requires upto-requires order-requires show-requires returns)
+    tie.close (tie.spec split-line-requires upto-requires order-requires show-requires returns)

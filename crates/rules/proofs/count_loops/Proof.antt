@@ -4,7 +4,7 @@ use mathlib.Core.Path.{sym, _∙_}
 use lib.Dec.{eqb}
 use native.Mathlib.Omega.{arith}
 use Rattle.words.specs.Rows.{rowsOf}
-use Rattle.table.proofs.Rows.{is-loop}
+use Rattle.table.proofs.Rows.{is-loop, row-read}
 use Rattle.rules.proofs.Names.{namer-le}
 use Rattle.rules.proofs.Columns.{Columns, columns-start, columns-step, columns-end}
 use Rattle.rules.proofs.count_loops.Statement.{statement}
@@ -60,7 +60,7 @@ loop-again c =
     let e = over .ensures .0 ∙ start .pre .1 (at .row) (at .inv .0) (omega arith) in (
       omega arith,
       columns-step (start .args .words .now) (at .around) (at .near) (at .row) (over .result) (eqb (row .kind) 3) more (omega arith) (at .inv .0) e
-          (rw (parent .ensures) (sym (is-loop (row .kind) (row .first) (row .second) (row .third))))
+          (rw (row-read _ _ (parent .ensures)) (sym (is-loop (row .kind) (row .first) (row .second) (row .third))))
           (at .inv .1) _ _ (c .stand-under .ensures),
     )
 

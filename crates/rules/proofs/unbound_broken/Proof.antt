@@ -1,6 +1,6 @@
 -- `rules::unbound_broken` meets its contract: only a Back is asked. Assumes nothing.
 use borrow.Author.Needs.{needs}
-use Rattle.table.proofs.Rows.{of-back}
+use Rattle.table.proofs.Rows.{of-back, row-read}
 use Rattle.rules.proofs.unbound_broken.Statement.{statement}
 use Rattle.rules.proofs.unbound_broken.Tie as tie
 
@@ -17,7 +17,7 @@ wide-requires : tie.Need-wide-requires
 wide-requires c κs = search needs
 
 returns : tie.Need-returns
-returns c = rw (c .before .before .before .before .read .ensures, of-back, c .before .wide .ensures .0, c .before .before .before .before .before .before .pre .1)
+returns c = rw (row-read _ _ (c .before .before .before .before .read .ensures), of-back, c .before .wide .ensures .0, c .before .before .before .before .before .before .pre .1)
 
 pub unbound-broken-spec : {M : Type 1} → statement M
 unbound-broken-spec =

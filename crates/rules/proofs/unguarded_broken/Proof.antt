@@ -1,6 +1,6 @@
 -- `rules::unguarded_broken` meets its contract: only a Back is asked, and its own Loop is next to it exactly where enough Loops are. Assumes nothing.
 use borrow.Author.Needs.{needs}
-use Rattle.table.proofs.Rows.{of-back}
+use Rattle.table.proofs.Rows.{of-back, row-read}
 use Rattle.table.proofs.Walk.{only-loops}
 use Rattle.rules.proofs.unguarded_broken.Statement.{statement}
 use Rattle.rules.proofs.unguarded_broken.Tie as tie
@@ -18,7 +18,7 @@ wide-requires : tie.Need-wide-requires
 wide-requires c κs = search needs
 
 returns : tie.Need-returns
-returns c = rw (c .before .before .before .before .read .ensures, of-back, only-loops, c .before .wide .ensures .0, c .before .before .before .before .before .before .pre .1)
+returns c = rw (row-read _ _ (c .before .before .before .before .read .ensures), of-back, only-loops, c .before .wide .ensures .0, c .before .before .before .before .before .before .pre .1)
 
 pub unguarded-broken-spec : {M : Type 1} → statement M
 unguarded-broken-spec =

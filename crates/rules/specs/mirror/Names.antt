@@ -11,16 +11,16 @@ use Rattle.table.specs.Above.{timesNamed, namer, loops, above}
 use Rattle.table.specs.mirror.Names.{nearLoops, Rising}
 
 -- the limit of the code
-abbrev pub Small : List ℕ → Type 0
-Small t = length t ≤ base .rows * 4
+abbrev pub FewRows : List ℕ → Type 0
+FewRows t = length t ≤ base .rows * 4
 
 -- one place for each row, and one for the row after the last
 abbrev pub places : ℕ
 places = suc (base .rows)
 
 -- a list of so many places with x for its i-th element, where i is inside
-abbrev pub put : List ℕ → ℕ → ℕ → List ℕ
-put l i x = cond (ltb i places) (set l i x) l
+abbrev pub placed : List ℕ → ℕ → ℕ → List ℕ
+placed l i x = cond (ltb i places) (set l i x) l
 
 -- the list has, for each row but 0 and for the row after the last, the lowest row that names it
 abbrev pub Namers : List ℕ → List ℕ → Type 0
@@ -37,4 +37,4 @@ Around t around near =
 
 -- what the rules read, for a table inside the limit
 abbrev pub Filled : List ℕ → List ℕ → List ℕ → List ℕ → Type 0
-Filled t times around near = (Small t) × (Counts t times) × (Around t around near)
+Filled t times around near = (FewRows t) × (Counts t times) × (Around t around near)

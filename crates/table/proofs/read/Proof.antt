@@ -1,6 +1,7 @@
 -- `table::read` meets its contract: the four words are the row. Assumes nothing.
 use native.Mathlib.Nat.{add-zero}
 use borrow.Author.Needs.{needs}
+use Rattle.table.specs.mirror.Read.{fourWords}
 use Rattle.table.proofs.read.Statement.{statement}
 use Rattle.table.proofs.read.Tie as tie
 
@@ -50,6 +51,7 @@ shared-slice-read-t17 : tie.Need-shared-slice-read-t17
 shared-slice-read-t17 c = search needs
 
 returns : tie.Need-returns
+unfolding fourWords
 returns c = rw (add-zero, c .before .wide3 .ensures .0, c .before .before .before .wide2 .ensures .0, c .before .before .before .before .before .wide .ensures .0)
 
 word-requires : tie.Need-word-requires
@@ -74,6 +76,7 @@ wide-requires-6 : tie.Need-wide-requires-6
 wide-requires-6 c κs = search needs
 
 returns-2 : tie.Need-returns-2
+unfolding fourWords
 returns-2 c =
     let second = c .before .before in
     let first = second .before .before in

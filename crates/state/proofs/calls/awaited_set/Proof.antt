@@ -79,7 +79,7 @@ loop-again c =
       omega arith,
       rw add-one
           (⊎-elim
-          (λ w. w .1 ∙ ap (λ (t : ℕ). bitOr t (1 * 2 ^ r % 2 ^ 8)) (c .before .before .before .before .before .before .loop .inv .5) ∙ set-or p r (omega arith) (sym e ∙ w .0 .taken))
+          (λ w. w .1 ∙ ap (λ (t : ℕ). bitOr t (1 * 2 ^ r % 2 ^ 8)) (c .before .before .before .before .before .before .loop .inv .5) ∙ set-or 8 p r (omega arith) (sym e ∙ w .0 .taken))
           (λ w. w .1 ∙ c .before .before .before .before .before .before .loop .inv .5 ∙ set-not p r (sym e ∙ w .0 .left))
           (c .if1 .came)),
     )

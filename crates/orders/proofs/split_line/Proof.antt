@@ -1,9 +1,9 @@
--- `orders::taken` meets its contract. Assumes nothing.
+-- `orders::split_line` meets its contract. Assumes nothing.
 use mathlib.Core.Path.{refl}
 use Rattle.orders.proofs.Reading.{not-line, a-line, numbers-read}
 use borrow.Author.Needs.{needs}
-use Rattle.orders.proofs.taken.Statement.{statement}
-use Rattle.orders.proofs.taken.Tie as tie
+use Rattle.orders.proofs.split_line.Statement.{statement}
+use Rattle.orders.proofs.split_line.Tie as tie
 
 numbers-requires : tie.Need-numbers-requires
 numbers-requires c κs = search needs
@@ -35,8 +35,8 @@ returns-2 c =
     rw (a-line (start .args .line .now) (start .args .numbers .now) (start .pre) _ _ (ends .0) (c .before .before .count .given .1))
     (c .letter .ensures, numbers-read (start .args .line .now) (start .args .numbers .now) (start .pre) _ _ (ends .0) (c .before .before .count .given .1) _ (ends .1))
 
-pub taken-spec : {M : Type 1} → statement M
-taken-spec =
+pub split-line-spec : {M : Type 1} → statement M
+split-line-spec =
     tie.close
     (tie.spec
     numbers-requires
