@@ -12,7 +12,7 @@ use borrow.Author.Tests.{eqb-true, not-true, not-false}
 use Rattle.words.proofs.Below.{and-both}
 use Rattle.words.specs.Rows.{word}
 use Rattle.table.specs.Tree.{Global, exchange, loop, Arms, nil, arm}
-use Rattle.table.specs.Kept.{Good, g-exchange, g-loop, g-arm, rowsIn, rowsInArms}
+use Rattle.table.specs.mirror.Kept.{Good, g-exchange, g-loop, g-arm, rowsIn, rowsInArms}
 use Rattle.parts.specs.Part.{Part, p-loop, PartArms, p-nil, p-arm, rising}
 use Rattle.parts.specs.Absent.{takesPart, leaves}
 use Rattle.parts.specs.Projection.{part, partArms, partExchange, mergeFrom, mergeAll}

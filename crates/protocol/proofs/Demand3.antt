@@ -8,7 +8,7 @@ use native.Mathlib.Decide.{ℕ-discrete, decLt}
 use native.Mathlib.Omega.{arith}
 use lib.ListN.{length, take, drop}
 use lib.Seq.{take-at}
-use Rattle.table.specs.Kept.{Ranged, r-end, r-exchange, r-flight, r-loop, r-back, RangedArms, r-nil, r-arm}
+use Rattle.table.specs.mirror.Kept.{Ranged, r-end, r-exchange, r-flight, r-loop, r-back, RangedArms, r-nil, r-arm}
 use Rattle.table.specs.Limits.{Limits, base}
 use Rattle.table.specs.Numbers.{ACCEPTED}
 use Rattle.table.specs.Check.{accepted, checkOf}

@@ -16,7 +16,7 @@ use Rattle.state.specs.declared.Turn.the-variants.{Refused, To}
 use Rattle.state.specs.mirror.Turns.{sendTurn, sendFound, receiveTurn, receiveFound}
 use Rattle.state.specs.mirror.Judged.{sendJudged, receiveJudged}
 use Rattle.session.specs.State.{listed, headOf, held, labelAt, stateGood, moved, pushed}
-use Rattle.session.specs.Calls.{answers, received, unless, sendArm, sendAt, sendOf, receiveArm, receiveAt, receiveOf}
+use Rattle.session.specs.Calls.{answers, received, refusedIf, sendArm, sendAt, sendOf, receiveArm, receiveAt, receiveOf}
 use Rattle.session.specs.declared.Session.{Session}
 use Rattle.session.specs.declared.Answer.{Answer}
 use Rattle.blocks.proofs.Mirrored.{arms-at, head-at}
@@ -26,7 +26,7 @@ module _ (ts : List ℕ) (roles p q : ℕ) (s : Session) where
   afterSend l v (Refused n) = answers n s
   afterSend l v (To h) = answers 0 (moved (pushed base s p q l v) p h)
 
-  send-refused : (l v n : ℕ) (b : Bool) (rest : Turn) → afterSend l v (cond b (Refused n) rest) ≡ unless n b s (afterSend l v rest)
+  send-refused : (l v n : ℕ) (b : Bool) (rest : Turn) → afterSend l v (cond b (Refused n) rest) ≡ refusedIf n b s (afterSend l v rest)
   send-refused l v n true rest = refl
   send-refused l v n false rest = refl
 
@@ -47,7 +47,7 @@ module _ (ts : List ℕ) (roles p q : ℕ) (s : Session) where
   send-row l v (Send peer f x) =
       rw (arms-at ts roles p f)
       (send-refused l v 15 (not (eqb peer q)) (sendFound base ts (p * blockRows ts roles) (blockRows ts roles) (held base s p q) (find l (chainAt (blockRows ts roles) ts (p * blockRows ts roles) f)))
-      ∙ ap (unless 15 (not (eqb peer q)) s) (send-arm l v (find l (chainAt (blockRows ts roles) ts (p * blockRows ts roles) f))))
+      ∙ ap (refusedIf 15 (not (eqb peer q)) s) (send-arm l v (find l (chainAt (blockRows ts roles) ts (p * blockRows ts roles) f))))
   send-row l v (Receive peer f x) = refl
   send-row l v Other = refl
 
@@ -56,17 +56,17 @@ module _ (ts : List ℕ) (roles p q : ℕ) (s : Session) where
   after-send l v =
       let rest = sendTurn base ts (p * blockRows ts roles) (blockRows ts roles) q l (held base s p q) (partRow ts roles p (headOf s p)) in
       send-refused l v 12 (not (tablesGood base ts roles)) _
-      ∙ ap (unless 12 (not (tablesGood base ts roles)) s)
+      ∙ ap (refusedIf 12 (not (tablesGood base ts roles)) s)
       (send-refused l v 13 (not (stateGood base ts roles s)) _
-      ∙ ap (unless 13 (not (stateGood base ts roles s)) s)
+      ∙ ap (refusedIf 13 (not (stateGood base ts roles s)) s)
       (send-refused l v 14 (not (arePair roles p q)) rest
-      ∙ ap (unless 14 (not (arePair roles p q)) s) (send-row l v (partRow ts roles p (headOf s p)))))
+      ∙ ap (refusedIf 14 (not (arePair roles p q)) s) (send-row l v (partRow ts roles p (headOf s p)))))
 
   abbrev pub afterReceive : Turn → Answer
   afterReceive (Refused n) = answers n s
   afterReceive (To h) = received base s p q h
 
-  receive-refused : (n : ℕ) (b : Bool) (rest : Turn) → afterReceive (cond b (Refused n) rest) ≡ unless n b s (afterReceive rest)
+  receive-refused : (n : ℕ) (b : Bool) (rest : Turn) → afterReceive (cond b (Refused n) rest) ≡ refusedIf n b s (afterReceive rest)
   receive-refused n true rest = refl
   receive-refused n false rest = refl
 
@@ -88,8 +88,8 @@ module _ (ts : List ℕ) (roles p q : ℕ) (s : Session) where
       let o = find (labelAt base s p q 0) (chainAt (blockRows ts roles) ts (q * blockRows ts roles) f) in
       rw (arms-at ts roles q f)
       (receive-refused 15 (not (eqb peer p)) _
-      ∙ ap (unless 15 (not (eqb peer p)) s)
-      (receive-refused 18 (eqb (held base s p q) 0) _ ∙ ap (unless 18 (eqb (held base s p q) 0) s) (receive-arm o)))
+      ∙ ap (refusedIf 15 (not (eqb peer p)) s)
+      (receive-refused 18 (eqb (held base s p q) 0) _ ∙ ap (refusedIf 18 (eqb (held base s p q) 0) s) (receive-arm o)))
   receive-row Other = refl
 
   pub after-receive : afterReceive (receiveJudged base ts roles p q (listed s)) ≡ receiveOf base ts roles p q s
@@ -97,8 +97,8 @@ module _ (ts : List ℕ) (roles p q : ℕ) (s : Session) where
   after-receive =
       let rest = receiveTurn ts (q * blockRows ts roles) (blockRows ts roles) p (held base s p q) (labelAt base s p q 0) (partRow ts roles q (headOf s q)) in
       receive-refused 12 (not (tablesGood base ts roles)) _
-      ∙ ap (unless 12 (not (tablesGood base ts roles)) s)
+      ∙ ap (refusedIf 12 (not (tablesGood base ts roles)) s)
       (receive-refused 13 (not (stateGood base ts roles s)) _
-      ∙ ap (unless 13 (not (stateGood base ts roles s)) s)
+      ∙ ap (refusedIf 13 (not (stateGood base ts roles s)) s)
       (receive-refused 14 (not (arePair roles p q)) rest
-      ∙ ap (unless 14 (not (arePair roles p q)) s) (receive-row (partRow ts roles q (headOf s q)))))
+      ∙ ap (refusedIf 14 (not (arePair roles p q)) s) (receive-row (partRow ts roles q (headOf s q)))))

@@ -22,7 +22,7 @@ use Rattle.state.specs.declared.Turn.the-variants.{Refused, To}
 use Rattle.state.specs.mirror.Judged.{sendJudged, receiveJudged}
 use Rattle.session.specs.State.{listed, held, labelAt, payloadAt, nothing, stateGood, moved, pushed, taken, forward}
 use Rattle.session.specs.declared.Session.{Session}
-use Rattle.session.specs.Calls.{answers, unless, firstHeads, freshOf, sendOf, receiveOf}
+use Rattle.session.specs.Calls.{answers, refusedIf, firstHeads, freshOf, sendOf, receiveOf}
 use Rattle.blocks.proofs.Mirrored.{head-at}
 use Rattle.blocks.proofs.Good.{both, sized-bounds}
 use Rattle.blocks.proofs.Sound.{good-sized, row-holds, row-headed, head-in}
@@ -345,8 +345,8 @@ fresh-keeps ts roles e = decide (tablesGood base ts roles) refl e
         (λ m. let at : getD (firstHeads ts roles 8) r 0 ≡ 0 = first-at ts roles 8 r l ∙ rw (le-ltb r roles m) in rw (le-ltb r roles m, at))
         (lt-or-le r roles)
 
-    decide : (t : Bool) → tablesGood base ts roles ≡ t → (unless 12 (not t) (nothing base) (answers 0 (record { heads = firstHeads ts roles 8; counts = nothing base .counts; labels = nothing base .labels; payloads = nothing base .payloads }))) .number ≡ 0
-        → stateGood base ts roles ((unless 12 (not t) (nothing base) (answers 0 (record { heads = firstHeads ts roles 8; counts = nothing base .counts; labels = nothing base .labels; payloads = nothing base .payloads }))) .state) ≡ true
+    decide : (t : Bool) → tablesGood base ts roles ≡ t → (refusedIf 12 (not t) (nothing base) (answers 0 (record { heads = firstHeads ts roles 8; counts = nothing base .counts; labels = nothing base .labels; payloads = nothing base .payloads }))) .number ≡ 0
+        → stateGood base ts roles ((refusedIf 12 (not t) (nothing base) (answers 0 (record { heads = firstHeads ts roles 8; counts = nothing base .counts; labels = nothing base .labels; payloads = nothing base .payloads }))) .state) ≡ true
     decide true good z =
         state-from ts roles (record { heads = firstHeads ts roles 8; counts = nothing base .counts; labels = nothing base .labels; payloads = nothing base .payloads })
         (λ r l. heads-good good r l)
@@ -390,6 +390,6 @@ pub fresh-shaped : (ts : List ℕ) (roles : ℕ) → Shaped (freshOf base ts rol
 unfolding freshOf
 fresh-shaped ts roles = decide (tablesGood base ts roles)
   where
-    decide : (t : Bool) → Shaped ((unless 12 (not t) (nothing base) (answers 0 (record { heads = firstHeads ts roles 8; counts = nothing base .counts; labels = nothing base .labels; payloads = nothing base .payloads }))) .state)
+    decide : (t : Bool) → Shaped ((refusedIf 12 (not t) (nothing base) (answers 0 (record { heads = firstHeads ts roles 8; counts = nothing base .counts; labels = nothing base .labels; payloads = nothing base .payloads }))) .state)
     decide true = record { heads-are = length-first ts roles 8; counts-are = refl; labels-are = refl; payloads-are = refl }
     decide false = record { heads-are = refl; counts-are = refl; labels-are = refl; payloads-are = refl }

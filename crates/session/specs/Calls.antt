@@ -26,15 +26,15 @@ received lim s p q h =
     record { number = ACCEPTED; label = labelAt lim s p q 0; payload = payloadAt lim s p q 0; state = moved (taken lim s p q) q h }
 
 -- refused with that number where the test holds; else the rest
-abbrev pub unless : ℕ → Bool → Session → Answer → Answer
-unless n broken s rest = cond broken (answers n s) rest
+abbrev pub refusedIf : ℕ → Bool → Session → Answer → Answer
+refusedIf n broken s rest = cond broken (answers n s) rest
 
 -- rules 12, 13 and 14, then the rest
 abbrev pub judged : Limits → List ℕ → ℕ → ℕ → ℕ → Session → Answer → Answer
 judged lim ts roles p q s rest =
-    unless TABLES (not (tablesGood lim ts roles)) s (
-    unless STATE (not (stateGood lim ts roles s)) s (
-    unless PARTY (not (arePair roles p q)) s rest))
+    refusedIf TABLES (not (tablesGood lim ts roles)) s (
+    refusedIf STATE (not (stateGood lim ts roles s)) s (
+    refusedIf PARTY (not (arePair roles p q)) s rest))
 
 -- each role at the head of row 0, absent roles at 0
 unfoldable pub firstHeads : List ℕ → ℕ → ℕ → List ℕ
@@ -46,7 +46,7 @@ firstHeads ts roles (suc n) = firstHeads ts roles n ++ (cond (ltb n roles) (head
 unfoldable pub freshOf : Limits → List ℕ → ℕ → Answer
 unfolding tablesGood firstHeads
 freshOf lim ts roles =
-    unless TABLES (not (tablesGood lim ts roles)) (nothing lim) (
+    refusedIf TABLES (not (tablesGood lim ts roles)) (nothing lim) (
     answers ACCEPTED (record {
       heads = firstHeads ts roles (lim .roles);
       counts = nothing lim .counts;
@@ -58,7 +58,7 @@ freshOf lim ts roles =
 unfoldable pub sendArm : Limits → List ℕ → ℕ → ℕ → ℕ → ℕ → ℕ → Session → Option ℕ → Answer
 sendArm lim ts roles p q l v s none = answers LABEL s
 sendArm lim ts roles p q l v s (some c) =
-    unless FULL (leb (lim .depth) (held lim s p q)) s (
+    refusedIf FULL (leb (lim .depth) (held lim s p q)) s (
     answers ACCEPTED (moved (pushed lim s p q l v) p (head ts roles p c)))
 
 -- rule 15: the head of p is a send to q
@@ -69,7 +69,7 @@ sendAt lim ts roles p q l v s (Arm k c n) = answers TURN s
 sendAt lim ts roles p q l v s (Loop b x y) = answers TURN s
 sendAt lim ts roles p q l v s (Back j x y) = answers TURN s
 sendAt lim ts roles p q l v s (Send peer f x) =
-    unless TURN (not (eqb peer q)) s (sendArm lim ts roles p q l v s (find l (armsOf ts roles p f)))
+    refusedIf TURN (not (eqb peer q)) s (sendArm lim ts roles p q l v s (find l (armsOf ts roles p f)))
 sendAt lim ts roles p q l v s (Receive peer f x) = answers TURN s
 sendAt lim ts roles p q l v s Other = answers TURN s
 
@@ -93,8 +93,8 @@ receiveAt lim ts roles p q s (Loop b x y) = answers TURN s
 receiveAt lim ts roles p q s (Back j x y) = answers TURN s
 receiveAt lim ts roles p q s (Send peer f x) = answers TURN s
 receiveAt lim ts roles p q s (Receive peer f x) =
-    unless TURN (not (eqb peer p)) s (
-    unless EMPTY (eqb (held lim s p q) 0) s (
+    refusedIf TURN (not (eqb peer p)) s (
+    refusedIf EMPTY (eqb (held lim s p q) 0) s (
     receiveArm lim ts roles p q s (find (labelAt lim s p q 0) (armsOf ts roles q f))))
 receiveAt lim ts roles p q s Other = answers TURN s
 

@@ -14,7 +14,7 @@ use Rattle.table.specs.Rows.{Exchange, Arm, Loop, row, label}
 use Rattle.table.specs.Above.{above, chainOver, earlierArms, hasLabel, loops, onlyLoops}
 use Rattle.table.specs.Check.{accepted, checkOf}
 use Rattle.table.specs.Tree.{Global, Arms, nil, arm, treeOf}
-use Rattle.table.specs.Kept.{Inside, i-end, i-exchange, i-loop, i-back, InsideArms, i-nil, i-arm, Static, t-end, t-exchange, t-loop, t-back, StaticArms, t-nil, t-arm, HasLabel, has-here, has-there, Good, g-end, g-exchange, g-loop, g-back, GoodArms, g-nil, g-arm, Ranged, r-end, r-exchange, r-loop, r-back, RangedArms, r-nil, r-arm, Guarded, u-end, u-exchange, u-loop, u-back, GuardedArms, u-nil, u-arm}
+use Rattle.table.specs.mirror.Kept.{Inside, i-end, i-exchange, i-loop, i-back, InsideArms, i-nil, i-arm, Static, t-end, t-exchange, t-loop, t-back, StaticArms, t-nil, t-arm, HasLabel, has-here, has-there, Good, g-end, g-exchange, g-loop, g-back, GoodArms, g-nil, g-arm, Ranged, r-end, r-exchange, r-loop, r-back, RangedArms, r-nil, r-arm, Guarded, u-end, u-exchange, u-loop, u-back, GuardedArms, u-nil, u-arm}
 use Rattle.table.specs.mirror.Names.{nearLink, farLink, nearLoops}
 use Rattle.table.proofs.Tests.{both, neither}
 use Rattle.table.proofs.Walk.{over-zero, loops-more, near-more, only-loops}

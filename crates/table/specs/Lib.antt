@@ -5,5 +5,4 @@ pub mod Above
 pub mod Rules
 pub mod Check
 pub mod Tree
-pub mod Kept
 pub mod mirror

@@ -5,7 +5,7 @@ use mathlib.Core.Logic.{_≢_}
 use mathlib.Core.Option.{some}
 use mathlib.Core.Path.{_≡_, refl}
 use native.Mathlib.Decide.{ℕ-discrete}
-use Rattle.table.specs.Kept.{HasLabel, has-here, has-there}
+use Rattle.table.specs.mirror.Kept.{HasLabel, has-here, has-there}
 use Rattle.table.specs.Tree.{Global, exchange, flight, Arms, nil, arm}
 use Rattle.blocks.specs.Head.{ArmAt, find}
 use Rattle.protocol.specs.Steps.{send, receive, ArmOf, here, there, Step, rule-1, rule-2, rule-3, rule-4, rule-5, Steps, no-arm, each-arm}

@@ -5,7 +5,7 @@ use mathlib.Core.List.{List}
 use mathlib.Core.Logic.{_≢_}
 use mathlib.Core.Option.{some}
 use mathlib.Core.Path.{_≡_}
-use Rattle.table.specs.Kept.{HasLabel}
+use Rattle.table.specs.mirror.Kept.{HasLabel}
 use Rattle.table.specs.Tree.{Global, end, exchange, flight, loop, back, Arms, nil, arm}
 use Rattle.blocks.specs.Head.{ArmAt, find}
 use Rattle.protocol.specs.Left.{NothingLeft}

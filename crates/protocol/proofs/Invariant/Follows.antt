@@ -5,7 +5,7 @@ use mathlib.Core.List.{List}
 use mathlib.Core.Logic.{_≢_}
 use mathlib.Core.Option.{some}
 use mathlib.Core.Path.{_≡_, refl}
-use Rattle.table.specs.Kept.{HasLabel, has-here, has-there}
+use Rattle.table.specs.mirror.Kept.{HasLabel, has-here, has-there}
 use Rattle.table.specs.Tree.{Global, Arms}
 use Rattle.blocks.specs.Head.{ArmAt, find}
 use Rattle.protocol.specs.Steps.{

@@ -4,7 +4,7 @@ use Prim.Native.Nat.{ℕ}
 use mathlib.Core.List.{List, [], _∷_}
 use mathlib.Core.Logic.{_≢_}
 use mathlib.Core.Path.{_≡_}
-use Rattle.table.specs.Kept.{Static}
+use Rattle.table.specs.mirror.Kept.{Static}
 use Rattle.table.specs.Tree.{Global, exchange, flight, Arms, nil, arm}
 use Rattle.protocol.specs.Steps.{SomeArm}
 

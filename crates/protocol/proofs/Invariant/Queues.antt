@@ -6,7 +6,7 @@ use mathlib.Core.Logic.{_≢_}
 use mathlib.Core.Path.{_≡_, refl}
 use native.Mathlib.Decide.{ℕ-discrete}
 use native.Mathlib.Omega.{arith}
-use Rattle.table.specs.Kept.{t-exchange, t-loop, StaticArms, t-nil, t-arm}
+use Rattle.table.specs.mirror.Kept.{t-exchange, t-loop, StaticArms, t-nil, t-arm}
 use Rattle.table.specs.Tree.{Global, exchange, Arms}
 use Rattle.protocol.specs.Steps.{Action, ArmOf, here, there, SomeArm, Step, rule-1, rule-2, rule-3, rule-4, rule-5, Steps, no-arm, each-arm}
 use Rattle.protocol.proofs.Unrolled.{static-unrolled}

@@ -4,7 +4,7 @@ use Prim.Native.Nat.{ℕ, suc}
 use mathlib.Core.Logic.{_≢_}
 use mathlib.Core.Path.{_≡_}
 use native.Mathlib.Omega.{arith}
-use Rattle.table.specs.Kept.{Inside, i-exchange, i-loop, i-back, InsideArms, i-nil, i-arm, HasLabel}
+use Rattle.table.specs.mirror.Kept.{Inside, i-exchange, i-loop, i-back, InsideArms, i-nil, i-arm, HasLabel}
 use Rattle.table.specs.Tree.{Global, end, exchange, loop, back, Arms, nil, arm}
 use Rattle.parts.specs.Part.{Part, p-end, p-send, p-receive, p-loop, p-back, PartArms}
 use Rattle.protocol.specs.Steps.{SomeArm}

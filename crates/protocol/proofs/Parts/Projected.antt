@@ -6,7 +6,7 @@ use mathlib.Core.Option.{Option, some, bind}
 use mathlib.Core.Path.{_≡_, refl, sym, _∙_}
 use lib.Dec.{eqb}
 use borrow.Author.Tests.{eqb-true, eqb-false, leb-false, ne-eqb, lt-leb}
-use Rattle.table.specs.Kept.{
+use Rattle.table.specs.mirror.Kept.{
   Inside,
   i-end,
   i-exchange,

@@ -9,7 +9,7 @@ use native.Mathlib.Decide.{ℕ-discrete, decLe}
 use native.Mathlib.Omega.{arith}
 use lib.Dec.{eqb}
 use borrow.Author.Tests.{eq-eqb, ne-eqb, le-leb, lt-leb, eqb-true}
-use Rattle.table.specs.Kept.{Inside, i-exchange, i-loop, i-back, InsideArms, i-arm, Good, g-end, g-exchange, g-flight, g-loop, g-back, GoodArms, g-nil, g-arm, Ranged, r-exchange, r-loop, RangedArms, r-arm}
+use Rattle.table.specs.mirror.Kept.{Inside, i-exchange, i-loop, i-back, InsideArms, i-arm, Good, g-end, g-exchange, g-flight, g-loop, g-back, GoodArms, g-nil, g-arm, Ranged, r-exchange, r-loop, RangedArms, r-arm}
 use Rattle.table.specs.Tree.{Global, loop, Arms, nil, arm}
 use Rattle.parts.specs.Part.{Part, p-end, p-send, p-receive, p-loop, p-back, PartArms, p-nil, p-arm, insert, rising, without}
 use Rattle.parts.specs.Absent.{takesPart, leaves}

@@ -17,7 +17,7 @@ use Rattle.blocks.specs.Tables.{rowGood, tablesGood}
 use Rattle.state.specs.Numbers.{TABLES, STATE, PARTY, TURN, LABEL, FULL, EMPTY, STRAY}
 use Rattle.state.specs.State.{arePair}
 use Rattle.session.specs.State.{headOf, held, labelAt, payloadAt, moved, pushed, taken}
-use Rattle.session.specs.Calls.{answers, unless, sendArm, sendAt, sendOf, receiveArm, receiveAt, receiveOf}
+use Rattle.session.specs.Calls.{answers, refusedIf, sendArm, sendAt, sendOf, receiveArm, receiveAt, receiveOf}
 use Rattle.session.specs.declared.Answer.{Answer}
 use Rattle.session.specs.declared.Session.{Session}
 use Rattle.protocol.specs.Steps.{send, receive}
@@ -266,7 +266,7 @@ module _ (lim : Limits) (ts : List ℕ) (roles : ℕ) (s : Session) where
 
       receive-peer : (peer : ℕ) (arms : List ArmAt) (b : Bool) → eqb peer p ≡ b → Pair roles p q → standsAt q ≡ v-receive peer arms
           → ReceiveCase p q (cond (not b) (answers TURN s)
-          (unless EMPTY (eqb (held lim s p q) 0) s (receiveArm lim ts roles p q s (find (labelAt lim s p q 0) arms))))
+          (refusedIf EMPTY (eqb (held lim s p q) 0) s (receiveArm lim ts roles p q s (find (labelAt lim s p q 0) arms))))
       receive-peer peer arms true e two f =
           let same : peer ≡ p = eqb-true peer p e in receive-held arms (eqb (held lim s p q) 0) refl two (rw same at f)
       receive-peer peer arms false e two f =

@@ -5,7 +5,7 @@ use mathlib.Core.List.{List, [], _∷_}
 use mathlib.Core.Path.{_∙_, ap}
 use native.Mathlib.Omega.{arith}
 use lib.ListN.{length}
-use Rattle.table.specs.Kept.{Inside, i-exchange, i-loop, InsideArms, i-nil, i-arm, HasLabel, has-here, has-there}
+use Rattle.table.specs.mirror.Kept.{Inside, i-exchange, i-loop, InsideArms, i-nil, i-arm, HasLabel, has-here, has-there}
 use Rattle.table.specs.Tree.{Global, loop, back, Arms}
 use Rattle.parts.specs.Part.{Part, p-loop, PartArms}
 use Rattle.blocks.specs.Head.{ArmAt}
