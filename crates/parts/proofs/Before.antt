@@ -10,7 +10,7 @@ use borrow.Author.Tests.{eq-eqb}
 use Rattle.table.specs.Limits.{Limits}
 use Rattle.table.specs.Check.{accepted, checkOf}
 use Rattle.table.specs.Tree.{Global, Arms}
-use Rattle.table.specs.Kept.{Good, g-end, g-exchange, g-flight, g-loop, g-back, GoodArms, g-nil, g-arm}
+use Rattle.table.specs.mirror.Kept.{Good, g-end, g-exchange, g-flight, g-loop, g-back, GoodArms, g-nil, g-arm}
 use Rattle.table.proofs.Trees.{tree-good}
 use Rattle.parts.specs.Part.{Part, p-end, p-send, p-receive, p-loop, p-back, PartArms, p-nil, p-arm, insert, rising, armOf, without}
 use Rattle.parts.specs.Absent.{takesPart, leaves}

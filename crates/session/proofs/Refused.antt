@@ -11,7 +11,7 @@ use Rattle.blocks.specs.Head.{armsOf, find}
 use Rattle.blocks.specs.Tables.{tablesGood}
 use Rattle.state.specs.State.{arePair}
 use Rattle.session.specs.State.{headOf, held, labelAt, stateGood}
-use Rattle.session.specs.Calls.{unless, standing, freshOf, sendArm, sendAt, sendOf, receiveArm, receiveAt, receiveOf}
+use Rattle.session.specs.Calls.{refusedIf, judged, freshOf, sendArm, sendAt, sendOf, receiveArm, receiveAt, receiveOf}
 use Rattle.session.specs.Awaited.{awaitedOf}
 use Rattle.session.specs.Refused.{HandsBack, NamesNobody, RefusedKeeps}
 use Rattle.session.specs.declared.Session.{Session}
@@ -19,9 +19,9 @@ use Rattle.session.specs.declared.Answer.{Answer}
 use Rattle.session.specs.declared.Awaiting.{Awaiting}
 
 -- a test that refuses hands back, and so does the rest
-back-unless : (n : ℕ) (b : Bool) (s : Session) (rest : Answer) → HandsBack s rest → HandsBack s (unless n b s rest)
-back-unless n true s rest h r = (refl, refl, refl)
-back-unless n false s rest h r = h r
+back-refused : (n : ℕ) (b : Bool) (s : Session) (rest : Answer) → HandsBack s rest → HandsBack s (refusedIf n b s rest)
+back-refused n true s rest h r = (refl, refl, refl)
+back-refused n false s rest h r = h r
 
 -- what holds of two answers holds of either
 either : (P : Awaiting → Type 0) (b : Bool) (x y : Awaiting) → P x → P y → P (cond b x y)
@@ -29,17 +29,17 @@ either P true x y h i = h
 either P false x y h i = i
 
 module _ (lim : Limits) (ts : List ℕ) (roles p q : ℕ) (s : Session) where
-  standing-back : (rest : Answer) → HandsBack s rest
-      → HandsBack s (standing lim ts roles p q s rest)
-  standing-back rest h =
-      back-unless 12 (not (tablesGood lim ts roles)) s _ (
-      back-unless 13 (not (stateGood lim ts roles s)) s _ (back-unless 14 (not (arePair roles p q)) s rest h))
+  judged-back : (rest : Answer) → HandsBack s rest
+      → HandsBack s (judged lim ts roles p q s rest)
+  judged-back rest h =
+      back-refused 12 (not (tablesGood lim ts roles)) s _ (
+      back-refused 13 (not (stateGood lim ts roles s)) s _ (back-refused 14 (not (arePair roles p q)) s rest h))
 
   module _ (l v : ℕ) where
     arm-back : (o : Option ℕ) → HandsBack s (sendArm lim ts roles p q l v s o)
     unfolding sendArm
     arm-back none = λ r. (refl, refl, refl)
-    arm-back (some c) = back-unless 17 (leb (lim .depth) (held lim s p q)) s _ (λ r. absurd (r refl))
+    arm-back (some c) = back-refused 17 (leb (lim .depth) (held lim s p q)) s _ (λ r. absurd (r refl))
 
     at-back : (w : PartRow) → HandsBack s (sendAt lim ts roles p q l v s w)
     unfolding sendAt
@@ -47,13 +47,13 @@ module _ (lim : Limits) (ts : List ℕ) (roles p q : ℕ) (s : Session) where
     at-back (Arm k c n) = λ r. (refl, refl, refl)
     at-back (Loop b x y) = λ r. (refl, refl, refl)
     at-back (Back j x y) = λ r. (refl, refl, refl)
-    at-back (Send peer f x) = back-unless 15 (not (eqb peer q)) s _ (arm-back (find l (armsOf ts roles p f)))
+    at-back (Send peer f x) = back-refused 15 (not (eqb peer q)) s _ (arm-back (find l (armsOf ts roles p f)))
     at-back (Receive peer f x) = λ r. (refl, refl, refl)
     at-back Other = λ r. (refl, refl, refl)
 
     pub send-back : HandsBack s (sendOf lim ts roles p q l v s)
     unfolding sendOf
-    send-back = standing-back (sendAt lim ts roles p q l v s (partRow ts roles p (headOf s p))) (at-back (partRow ts roles p (headOf s p)))
+    send-back = judged-back (sendAt lim ts roles p q l v s (partRow ts roles p (headOf s p))) (at-back (partRow ts roles p (headOf s p)))
 
   get-back : (o : Option ℕ) → HandsBack s (receiveArm lim ts roles p q s o)
   unfolding receiveArm
@@ -68,18 +68,18 @@ module _ (lim : Limits) (ts : List ℕ) (roles p q : ℕ) (s : Session) where
   row-back (Back j x y) = λ r. (refl, refl, refl)
   row-back (Send peer f x) = λ r. (refl, refl, refl)
   row-back (Receive peer f x) =
-      back-unless 15 (not (eqb peer p)) s _ (
-      back-unless 18 (eqb (held lim s p q) 0) s _ (get-back (find (labelAt lim s p q 0) (armsOf ts roles q f))))
+      back-refused 15 (not (eqb peer p)) s _ (
+      back-refused 18 (eqb (held lim s p q) 0) s _ (get-back (find (labelAt lim s p q 0) (armsOf ts roles q f))))
   row-back Other = λ r. (refl, refl, refl)
 
   pub receive-back : HandsBack s (receiveOf lim ts roles p q s)
   unfolding receiveOf
-  receive-back = standing-back (receiveAt lim ts roles p q s (partRow ts roles q (headOf s q))) (row-back (partRow ts roles q (headOf s q)))
+  receive-back = judged-back (receiveAt lim ts roles p q s (partRow ts roles q (headOf s q))) (row-back (partRow ts roles q (headOf s q)))
 
 pub refused-keeps : (lim : Limits) → RefusedKeeps lim
 unfolding freshOf awaitedOf
 refused-keeps lim = record {
-  fresh = λ ts roles. back-unless 12 (not (tablesGood lim ts roles)) _ _ (λ r. absurd (r refl));
+  fresh = λ ts roles. back-refused 12 (not (tablesGood lim ts roles)) _ _ (λ r. absurd (r refl));
   send = λ s ts roles p q l v. send-back lim ts roles p q s l v;
   receive = λ s ts roles p q. receive-back lim ts roles p q s;
   awaited-state = λ s ts roles.

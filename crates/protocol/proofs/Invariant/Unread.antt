@@ -9,7 +9,7 @@ use native.Mathlib.Omega.{arith}
 use lib.Dec.{eqb}
 use lib.ListN.{length, drop, length-append}
 use borrow.Author.Tests.{eqb-true, eq-eqb, ne-eqb}
-use Rattle.table.specs.Kept.{Static, t-exchange, t-arm, StaticArms}
+use Rattle.table.specs.mirror.Kept.{Static, t-exchange, t-arm, StaticArms}
 use Rattle.table.specs.Tree.{Global, Arms}
 use Rattle.table.proofs.Tests.{both}
 use Rattle.protocol.specs.Steps.{send, receive, SomeArm, some-arm, Step}
