@@ -11,9 +11,9 @@ ghost use lib.ListN.{set};
 ghost use Rattle.layout.specs.mirror.Lay.{LIMIT, inside, loopRow, nextRow, openArm, closeArm, resume, putLoop, putLast, lastRow, putAction, runS, clearS, layOut};
 
 // Where the codes and the rows of a part end.
-pub struct Laid {
-    pub code: usize,
-    pub row: usize,
+struct Laid {
+    code: usize,
+    row: usize,
 }
 
 // What goes on behind the end of a part: the Loops around, the arm that waits next, and the codes left.

@@ -30,41 +30,41 @@ ghost use Rattle.projection.specs.mirror.Orders.{Listed};
 ghost use Rattle.projection.specs.mirror.Projects.{SMALL, Coded, Pushed, PlannedBy, Planned, leadsOn, wayTo, Enters, Walks, Closed, ArmRead, Chooses, Projects, Owns, Folds, Prepared, Parted, partsOf, Complete};
 
 // Whether there is a part, and the height of the stack with it.
-pub struct Projected {
-    pub ok: bool,
-    pub at: usize,
+struct Projected {
+    ok: bool,
+    at: usize,
 }
 
 // What a row asks for a role. 0: the word is the whole part. 1: the word, then the part of the row `next`. 2: the word, then the arms from
 // the row `next` on, in rising order. 3: the merge of the parts of the arms from the row `next` on.
-pub struct Plan {
-    pub case: u8,
-    pub word: u16,
-    pub next: usize,
+struct Plan {
+    case: u8,
+    word: u16,
+    next: usize,
 }
 
 // The row that a row leads on to, the height of the stack before its part, and how many marks are put behind its part.
-pub struct Step {
-    pub row: usize,
-    pub at: usize,
-    pub marks: usize,
+struct Step {
+    row: usize,
+    at: usize,
+    marks: usize,
 }
 
 // A plan, the height of the stack before its part, how many marks are put behind it, and how many links are left to follow.
-pub struct Way {
-    pub case: u8,
-    pub word: u16,
-    pub next: usize,
-    pub at: usize,
-    pub marks: usize,
-    pub left: usize,
+struct Way {
+    case: u8,
+    word: u16,
+    next: usize,
+    at: usize,
+    marks: usize,
+    left: usize,
 }
 
 // An arm: its word, its continuation and the arm after it in the chain, 0 for none.
-pub struct Arm {
-    pub word: u16,
-    pub cont: usize,
-    pub next: usize,
+struct Arm {
+    word: u16,
+    cont: usize,
+    next: usize,
 }
 
 // The words of the parts of any table have room here: a part has at most two for each row.
