@@ -45,22 +45,6 @@ fn no_row() -> Row
     }
 }
 
-// The words of a row that is not whole.
-fn broken_row(tables: &[u16], at: usize) -> Row
-    ensures { λ r. ⌜ r ≡ words (now (tables .entry)) at ⌝ }
-{
-    let kind = words::word(tables, at, 0);
-    let first = words::word(tables, at, 1);
-    let second = words::word(tables, at, 2);
-    let third = words::word(tables, at, 3);
-    Row {
-        kind: kind,
-        first: first,
-        second: second,
-        third: third,
-    }
-}
-
 // A row of the block; past the end of the tables its words are 0. One test serves all four words of a row inside.
 pub fn row_at(tables: &[u16], start: usize, row: usize) -> Row
     ensures { λ r. ⌜ r ≡ words (now (tables .entry)) (start + row) ⌝ }
@@ -81,7 +65,18 @@ pub fn row_at(tables: &[u16], start: usize, row: usize) -> Row
     if rows - start < row {
         return no_row();
     }
-    broken_row(tables, start + row)
+    // The words after the last whole row.
+    let at = start + row;
+    let kind = words::word(tables, at, 0);
+    let first = words::word(tables, at, 1);
+    let second = words::word(tables, at, 2);
+    let third = words::word(tables, at, 3);
+    Row {
+        kind: kind,
+        first: first,
+        second: second,
+        third: third,
+    }
 }
 
 // The row where a role at `row` comes to stand: on through Loop and Back rows, at most as often as the block has rows.

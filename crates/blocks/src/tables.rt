@@ -10,7 +10,7 @@ ghost use Rattle.words.specs.Below.{every};
 ghost use Rattle.table.specs.Limits.{base};
 ghost use Rattle.blocks.specs.Tables.{isPeer};
 ghost use Rattle.blocks.specs.mirror.Rows.{said};
-ghost use Rattle.blocks.specs.mirror.Tables.{toArmAt, toOtherAt, nextAt, toLoopAt, actionHoldsAt, rowHoldsAt, rowGoodAt, sizedRows, goodRows};
+ghost use Rattle.blocks.specs.mirror.Tables.{toArmAt, toOtherAt, nextAt, toLoopAt, rowHoldsAt, rowGoodAt, sizedRows, goodRows};
 ghost use Rattle.blocks.specs.mirror.Heads.{Noted};
 
 // A link from a row to an Arm of a higher number, inside the block.
@@ -57,23 +57,6 @@ fn is_peer(roles: usize, role: usize, peer: u16) -> bool
     (other < roles) & (other != role)
 }
 
-// A Send or a Receive: a peer, and a first arm.
-fn action_holds(
-    tables: &[u16],
-    roles: usize,
-    rows: usize,
-    start: usize,
-    role: usize,
-    row: usize,
-    part: Row,
-) -> bool
-    ensures { λ r. ⌜ r ≡ actionHoldsAt (now (tables .entry)) roles rows start role row (part .first) (part .second) (part .third) ⌝ }
-{
-    let peer = is_peer(roles, role, part.first);
-    let arm = to_arm(tables, start, rows, row, part.second);
-    peer & arm & (part.third == 0)
-}
-
 // The kind of a row chooses the tests of its fields and links.
 fn row_holds(
     tables: &[u16],
@@ -95,16 +78,22 @@ fn row_holds(
             let rises = to_next(tables, start, rows, row, part.first, part.third);
             (row != 0) & low & goes_on & rises
         }
-        Row::LOOP => {
-            let goes_on = to_other(tables, start, rows, row, part.first);
-            goes_on & (part.second == 0) & (part.third == 0)
+        Row::LOOP => to_other(tables, start, rows, row, part.first)
+            & (part.second == 0)
+            & (part.third == 0),
+        Row::BACK => to_loop(tables, start, row, part.first)
+            & (part.second == 0)
+            & (part.third == 0),
+        Row::SEND => {
+            let peer = is_peer(roles, role, part.first);
+            let arm = to_arm(tables, start, rows, row, part.second);
+            peer & arm & (part.third == 0)
         }
-        Row::BACK => {
-            let returns = to_loop(tables, start, row, part.first);
-            returns & (part.second == 0) & (part.third == 0)
+        Row::RECEIVE => {
+            let peer = is_peer(roles, role, part.first);
+            let arm = to_arm(tables, start, rows, row, part.second);
+            peer & arm & (part.third == 0)
         }
-        Row::SEND => action_holds(tables, roles, rows, start, role, row, part),
-        Row::RECEIVE => action_holds(tables, roles, rows, start, role, row, part),
         _ => false,
     }
 }

@@ -22,18 +22,14 @@ toLoopAt ts start i j = ltb j i && isLoop (rowAt ts start j)
 abbrev pub nextAt : List ℕ → ℕ → ℕ → ℕ → ℕ → ℕ → Bool
 nextAt ts start rows i l n = eqb n 0 || toArmAt ts start rows i n && ltb l (label (rowAt ts start n))
 
--- a Send to q or a Receive from q, of role r
-abbrev pub actionHoldsAt : List ℕ → ℕ → ℕ → ℕ → ℕ → ℕ → ℕ → ℕ → ℕ → Bool
-actionHoldsAt ts roles rows start r i q f x = isPeer roles r q && toArmAt ts start rows i f && eqb x 0
-
 unfoldable pub rowHoldsAt : Limits → List ℕ → ℕ → ℕ → ℕ → ℕ → ℕ → PartRow → Bool
 rowHoldsAt lim ts roles rows start r i (End a b c) = eqb a 0 && eqb b 0 && eqb c 0
 rowHoldsAt lim ts roles rows start r i (Arm l c n) =
     not (eqb i 0) && ltb l (lim .labels) && toOtherAt ts start rows i c && nextAt ts start rows i l n
 rowHoldsAt lim ts roles rows start r i (Loop b x y) = toOtherAt ts start rows i b && eqb x 0 && eqb y 0
 rowHoldsAt lim ts roles rows start r i (Back j x y) = ltb j i && isLoop (rowAt ts start j) && eqb x 0 && eqb y 0
-rowHoldsAt lim ts roles rows start r i (Send q f x) = actionHoldsAt ts roles rows start r i q f x
-rowHoldsAt lim ts roles rows start r i (Receive q f x) = actionHoldsAt ts roles rows start r i q f x
+rowHoldsAt lim ts roles rows start r i (Send q f x) = isPeer roles r q && toArmAt ts start rows i f && eqb x 0
+rowHoldsAt lim ts roles rows start r i (Receive q f x) = isPeer roles r q && toArmAt ts start rows i f && eqb x 0
 rowHoldsAt lim ts roles rows start r i Other = false
 
 -- row i, followed n times, is a head

@@ -20,11 +20,17 @@ to-other-requires-2 c κs = search needs
 to-loop-requires : tie.Need-to-loop-requires
 to-loop-requires c κs = search needs
 
-action-holds-requires : tie.Need-action-holds-requires
-action-holds-requires c κs = search needs
+is-peer-requires : tie.Need-is-peer-requires
+is-peer-requires c κs = search needs
 
-action-holds-requires-2 : tie.Need-action-holds-requires-2
-action-holds-requires-2 c κs = search needs
+to-arm-requires : tie.Need-to-arm-requires
+to-arm-requires c κs = search needs
+
+is-peer-requires-2 : tie.Need-is-peer-requires-2
+is-peer-requires-2 c κs = search needs
+
+to-arm-requires-2 : tie.Need-to-arm-requires-2
+to-arm-requires-2 c κs = search needs
 
 returns : tie.Need-returns
 unfolding rowHoldsAt
@@ -44,11 +50,11 @@ returns-4 c = rw (c .before .before .before .match .keys4, c .before .before .to
 
 returns-5 : tie.Need-returns-5
 unfolding rowHoldsAt
-returns-5 c = rw (c .before .match .keys5) (c .action-holds .ensures)
+returns-5 c = rw (c .before .before .before .match .keys5, c .before .before .is-peer .ensures, c .before .to-arm .ensures)
 
 returns-6 : tie.Need-returns-6
 unfolding rowHoldsAt
-returns-6 c = rw (c .before .match .keys6) (c .action-holds2 .ensures)
+returns-6 c = rw (c .before .before .before .match .keys6, c .before .before .is-peer2 .ensures, c .before .to-arm2 .ensures)
 
 returns-7 : tie.Need-returns-7
 unfolding rowHoldsAt
@@ -63,8 +69,10 @@ row-holds-spec =
     to-next-requires
     to-other-requires-2
     to-loop-requires
-    action-holds-requires
-    action-holds-requires-2
+    is-peer-requires
+    to-arm-requires
+    is-peer-requires-2
+    to-arm-requires-2
     returns
     returns-2
     returns-3
