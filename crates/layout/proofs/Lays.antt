@@ -8,12 +8,13 @@ use native.Mathlib.Omega.{arith}
 use native.Mathlib.Numerals.{sub-one}
 use lib.Dec.{ltb, leb, eqb}
 use lib.ListN.{getD, set}
-use borrow.Author.Tests.{lt-ltb, le-ltb, eq-eqb, ne-eqb, eqb-false, ltb-true, leb-true}
+use borrow.Author.Tests.{lt-ltb, le-ltb, le-leb, eq-eqb, ne-eqb, eqb-false, ltb-true, leb-true}
 use Rattle.words.proofs.Below.{and-both}
 use Rattle.words.specs.Rows.{word, putRow}
-use Rattle.layout.specs.mirror.Lay.{LIMIT, inside, InRange, stepAt, loopRow, nextRow, openArm, closeArm, resume, putLoop, putLast, lastRow, putAction, Lay, turnBody, runS, endS, clearS, layOut}
+use Rattle.layout.specs.mirror.Lay.{LIMIT, inside, InRange, stepAt, loopRow, nextRow, openArm, closeArm, resume, putLoop, putLast, lastRow, putAction, Lay, turnBody, runS, rest, endS, clearS, layOut}
 use Rattle.layout.specs.declared.Laid.{Laid}
 use Rattle.layout.specs.declared.Resumed.{Resumed}
+use Rattle.layout.specs.declared.Walk.{Walk}
 
 -- ---- the step at a code
 
@@ -29,31 +30,31 @@ action-step k l h = go (eqb k 6) refl
     go false x = let e : 5 ≡ k = omega (arith, eqb-false k 6 x) in rw x e
 
 -- b: what the code found of its range
-module _ (n i from row depth : ℕ) (b : Bool) (eb : b ≡ inside n i from row depth) where
-  within : b ≡ true → inside n i from row depth ≡ true
-  within e = sym eb ∙ e
+pub in-range : (n i from row depth : ℕ) (b : Bool) → b ≡ inside n i from row depth → b ≡ true → InRange n i from row depth
+in-range n i from row depth b eb e =
+    let (p, d) = and-both (((ltb 0 n && ltb i LIMIT) && leb from LIMIT) && ltb row LIMIT) (ltb depth LIMIT) (sym eb ∙ e) in
+    let (q, r) = and-both ((ltb 0 n && ltb i LIMIT) && leb from LIMIT) (ltb row LIMIT) p in
+    let (o, f) = and-both (ltb 0 n && ltb i LIMIT) (leb from LIMIT) q in
+    let (l, c) = and-both (ltb 0 n) (ltb i LIMIT) o in
+    record {
+      some-left = ltb-true 0 n l;
+      code-in = ltb-true i LIMIT c;
+      from-in = leb-true from LIMIT f;
+      row-in = ltb-true row LIMIT r;
+      depth-in = ltb-true depth LIMIT d;
+    }
 
-  pub in-range : b ≡ true → InRange n i from row depth
-  in-range e =
-      let (p, d) = and-both (((ltb 0 n && ltb i LIMIT) && leb from LIMIT) && ltb row LIMIT) (ltb depth LIMIT) (within e) in
-      let (q, r) = and-both ((ltb 0 n && ltb i LIMIT) && leb from LIMIT) (ltb row LIMIT) p in
-      let (o, f) = and-both (ltb 0 n && ltb i LIMIT) (leb from LIMIT) q in
-      let (l, c) = and-both (ltb 0 n) (ltb i LIMIT) o in
-      record {
-        some-left = ltb-true 0 n l;
-        code-in = ltb-true i LIMIT c;
-        from-in = leb-true from LIMIT f;
-        row-in = ltb-true row LIMIT r;
-        depth-in = ltb-true depth LIMIT d;
-      }
+range-in : (n i from row depth : ℕ) → InRange n i from row depth → inside n i from row depth ≡ true
+range-in n i from row depth h =
+    rw (lt-ltb 0 n (h .some-left), lt-ltb i LIMIT (h .code-in), le-leb from LIMIT (h .from-in), lt-ltb row LIMIT (h .row-in), lt-ltb depth LIMIT (h .depth-in))
 
-  step-out : b ≡ false → (s : List ℕ) → 7 ≡ stepAt n s i from row depth
-  unfolding stepAt
-  step-out e s = rw (← eb, e)
+step-out : (n : ℕ) (s : List ℕ) (i from row depth : ℕ) → inside n i from row depth ≡ false → 7 ≡ stepAt n s i from row depth
+unfolding stepAt
+step-out n s i from row depth e = rw e
 
-  step-in : b ≡ true → (s : List ℕ) (w : ℕ) → w ≡ getD s i 0 → stepOf (w % 8) ≡ stepAt n s i from row depth
-  unfolding stepAt
-  step-in e s w ew = rw (within e, ew)
+step-in : (n : ℕ) (s : List ℕ) (i from row depth w : ℕ) → InRange n i from row depth → w ≡ getD s i 0 → stepOf (w % 8) ≡ stepAt n s i from row depth
+unfolding stepAt
+step-in n s i from row depth w h ew = rw (range-in n i from row depth h, ew)
 
 -- ---- the row of a Back's Loop; back: its depth
 
@@ -145,57 +146,63 @@ unfolding runS
 end-eq n s from i out row loops zero = refl
 end-eq n s from i out row loops (suc arm) = refl
 
--- a turn of `lay`; before: what the whole call leaves
-module _ (before : Lay) (n : ℕ) (s : List ℕ) (from i : ℕ) (out : List ℕ) (row : ℕ) (loops : List ℕ) (depth wait : ℕ)
-    (same : before ≡ runS n s from i out row loops depth wait) (b : Bool) (eb : b ≡ inside n i from row depth) where
-  turn : (k : ℕ) → k ≡ stepAt n s i from row depth
-      → before ≡ turnBody (λ j o r l d w. runS (n - 1) s from j o r l d w) k s from i out row loops depth wait
-  turn k ek = same ∙ run-at n s from i out row loops depth wait k ek
+-- after the last turn; b: what the code found of its range
+pub lay-done : (s : List ℕ) (from : ℕ) (at : Walk) (out loops : List ℕ) (b : Bool) → b ≡ inside (at .left) (at .code) from (at .row) (at .depth) → b ≡ false
+    → Ends (record { code = at .code; row = at .row }) out loops (rest s from at out loops)
+lay-done s from at out loops b eb e =
+    let out-of : 7 ≡ stepAt (at .left) s (at .code) from (at .row) (at .depth) = step-out (at .left) s (at .code) from (at .row) (at .depth) (sym eb ∙ e) in
+    rw (run-at (at .left) s from (at .code) out (at .row) loops (at .depth) (at .wait) 7 out-of) (refl, refl, refl)
 
-  pub lay-done : b ≡ false → Ends (record { code = i; row = row }) out loops before
-  lay-done e = rw (turn 7 (step-out n i from row depth b eb e s)) (refl, refl, refl)
+-- a turn at the code w
+module _ (s : List ℕ) (from : ℕ) (at : Walk) (out loops : List ℕ) (h : InRange (at .left) (at .code) from (at .row) (at .depth) × (at .wait ≤ LIMIT))
+    (w : ℕ) (ew : w ≡ getD s (at .code) 0) where
+  -- what `turn` promises of its answer and both slices
+  abbrev Goes : Walk → List ℕ → List ℕ → Type 0
+  Goes r o l = (rest s from at out loops ≡ rest s from r o l) × (r .left < at .left) × (r .wait ≤ LIMIT)
 
-  -- at the code w
-  module _ (e : b ≡ true) (w : ℕ) (ew : w ≡ getD s i 0) where
-    step : (k : ℕ) → k ≡ stepOf (w % 8) → before ≡ turnBody (λ j o r l d w. runS (n - 1) s from j o r l d w) k s from i out row loops depth wait
-    step k ek = turn k (ek ∙ step-in n i from row depth b eb e s w ew)
+  step : (k : ℕ) → k ≡ stepOf (w % 8)
+      → rest s from at out loops
+      ≡ turnBody (λ j o r l d x. runS (at .left - 1) s from j o r l d x) k s from (at .code) out (at .row) loops (at .depth) (at .wait)
+  step k ek =
+      run-at (at .left) s from (at .code) out (at .row) loops (at .depth) (at .wait) k (ek ∙ step-in (at .left) s (at .code) from (at .row) (at .depth) w (h .0) ew)
 
-    -- what is left to do
-    abbrev Next : ℕ → List ℕ → ℕ → List ℕ → ℕ → ℕ → ℕ → Type 0
-    Next j o r l d x m = before ≡ runS m s from j o r l d x
+  -- an End, a Back or the mark behind the last arm
+  abbrev Last : Type 0
+  Last = rest s from at out loops ≡ endS (at .left - 1) s from (at .code + 1) (putLast w out from (at .row) loops (at .depth)) (lastRow w (at .row)) loops (at .wait)
 
-    -- an End, a Back or the mark behind the last arm
-    abbrev Last : Type 0
-    Last = before ≡ endS (n - 1) s from (i + 1) (putLast w out from row loops depth) (lastRow w row) loops wait
+  last : (w % 8 ≡ 4) ⊎ (w % 8 < 2) → Last
+  last k = ⊎-elim (λ k4. rw (step 4 (rw k4), ← ew)) (λ l. low (w % 8) refl l) k
+    where
+      low : (k : ℕ) → w % 8 ≡ k → k < 2 → Last
+      low zero e l = rw (step 0 (rw e), ← ew)
+      low (suc zero) e l = rw (step 1 (rw e), ← ew)
+      low (suc (suc k)) e l = absurd (omega arith)
 
-    last : (w % 8 ≡ 4) ⊎ (w % 8 < 2) → Last
-    last k = ⊎-elim (λ k4. rw (step 4 (rw k4), ← ew)) (λ l. low (w % 8) refl l) k
-      where
-        low : (k : ℕ) → w % 8 ≡ k → k < 2 → Last
-        low zero e l = rw (step 0 (rw e), ← ew)
-        low (suc zero) e l = rw (step 1 (rw e), ← ew)
-        low (suc (suc k)) e l = absurd (omega arith)
+  pub turn-last : (w % 8 ≡ 4) ⊎ (w % 8 < 2) → (r : ℕ) (o : List ℕ) → r ≡ lastRow w (at .row) → o ≡ putLast w out from (at .row) loops (at .depth)
+      → (q : Resumed) → q ≡ resume o from (at .wait) (at .left - 1) → q .wait ≤ LIMIT → (o′ : List ℕ) → o′ ≡ closeArm s o from (at .code + 1) r (at .wait)
+      → Goes (record { code = at .code + 1; row = r; depth = q .depth; wait = q .wait; left = q .left }) o′ loops
+  turn-last k r o er eo q eq hq o′ eo′ =
+      let ended : rest s from at out loops ≡ endS (at .left - 1) s from (at .code + 1) o r loops (at .wait) = rw (er, eo) (last k) in (
+        ended ∙ rw (eq, eo′) (end-eq (at .left - 1) s from (at .code + 1) o r loops (at .wait)),
+        omega (arith, h .0, resume-left o from (at .wait) (at .left - 1) q eq),
+        hq,
+      )
 
-    pub lay-last : (w % 8 ≡ 4) ⊎ (w % 8 < 2) → (r : ℕ) (o : List ℕ) → r ≡ lastRow w row → o ≡ putLast w out from row loops depth
-        → (q : Resumed) → q ≡ resume o from wait (n - 1) → (o′ : List ℕ) → o′ ≡ closeArm s o from (i + 1) r wait
-        → Next (i + 1) o′ r loops (q .depth) (q .wait) (q .left)
-    lay-last k r o er eo q eq o′ eo′ =
-        let ended : before ≡ endS (n - 1) s from (i + 1) o r loops wait = rw (er, eo) (last k) in
-        ended ∙ rw (eq, eo′) (end-eq (n - 1) s from (i + 1) o r loops wait)
+  pub turn-arm : w % 8 ≡ 2 → (o : List ℕ) → o ≡ openArm w out from (at .row) (at .depth) (at .wait)
+      → Goes (record { code = at .code + 1; row = at .row + 1; depth = at .depth; wait = at .row + 1; left = at .left - 1 }) o loops
+  turn-arm k o eo = (rw (step 2 (rw k), ← ew, ← eo), omega (arith, h .0), omega (arith, h .0))
 
-    pub lay-arm : w % 8 ≡ 2 → (o : List ℕ) → o ≡ openArm w out from row depth wait → Next (i + 1) o (row + 1) loops depth (row + 1) (n - 1)
-    lay-arm k o eo = rw (step 2 (rw k), ← ew, ← eo)
+  pub turn-loop : w % 8 ≡ 3 → (o l : List ℕ) → o ≡ putLoop out from (at .row) → l ≡ set loops (at .depth) (at .row)
+      → Goes (record { code = at .code + 1; row = at .row + 1; depth = at .depth + 1; wait = at .wait; left = at .left - 1 }) o l
+  turn-loop k o l eo el = (rw (step 3 (rw k), ← eo, ← el), omega (arith, h .0), h .1)
 
-    pub lay-loop : w % 8 ≡ 3 → (o l : List ℕ) → o ≡ putLoop out from row → l ≡ set loops depth row → Next (i + 1) o (row + 1) l (depth + 1) wait (n - 1)
-    lay-loop k o l eo el = rw (step 3 (rw k), ← eo, ← el)
+  pub turn-nothing : w % 8 ≡ 7 → Goes (record { code = at .code; row = at .row; depth = at .depth; wait = at .wait; left = 0 }) out loops
+  unfolding runS
+  turn-nothing k = (step 7 (rw k), h .0 .some-left, h .1)
 
-    pub lay-nothing : w % 8 ≡ 7 → Next i out row loops depth wait 0
-    unfolding runS
-    lay-nothing k = step 7 (rw k)
-
-    pub lay-action : 2 ≤ w % 8 → w % 8 ≢ 2 → w % 8 ≢ 3 → w % 8 ≢ 4 → w % 8 ≢ 7 → (o : List ℕ) → o ≡ putAction w out from row
-        → Next (i + 1) o (row + 1) loops depth wait (n - 1)
-    lay-action h n2 n3 n4 n7 o eo = rw (step 5 (action-step (w % 8) (omega arith) (omega arith)), ← ew, ← eo)
+  pub turn-action : 2 ≤ w % 8 → w % 8 ≢ 2 → w % 8 ≢ 3 → w % 8 ≢ 4 → w % 8 ≢ 7 → (o : List ℕ) → o ≡ putAction w out from (at .row)
+      → Goes (record { code = at .code + 1; row = at .row + 1; depth = at .depth; wait = at .wait; left = at .left - 1 }) o loops
+  turn-action g n2 n3 n4 n7 o eo = (rw (step 5 (action-step (w % 8) (omega arith) (omega arith)), ← ew, ← eo), omega (arith, h .0), h .1)
 
 -- the block: what `lay` and `clear` leave
 pub laid-out : (s : List ℕ) (i : ℕ) (out : List ℕ) (from rows : ℕ) (loops : List ℕ) (r : Laid) (o l o′ : List ℕ) → (ltb LIMIT from || ltb LIMIT rows) ≡ false

@@ -8,12 +8,21 @@ use parts::MARK;
 ghost use mathlib.Core.Path.{_≡_};
 ghost use Prim.Native.Nat.{_+_, _-_, _*_, _<_, _≤_};
 ghost use lib.ListN.{set};
-ghost use Rattle.layout.specs.mirror.Lay.{LIMIT, inside, loopRow, nextRow, openArm, closeArm, resume, putLoop, putLast, lastRow, putAction, runS, clearS, layOut};
+ghost use Rattle.layout.specs.mirror.Lay.{LIMIT, inside, InRange, loopRow, nextRow, openArm, closeArm, resume, putLoop, putLast, lastRow, putAction, runS, rest, clearS, layOut};
 
 // Where the codes and the rows of a part end.
 struct Laid {
     code: usize,
     row: usize,
+}
+
+// Where a turn stands: its code and its row, the Loops around, the arm that waits, as 1 + its row or 0 for none, and the codes left.
+struct Walk {
+    code: usize,
+    row: usize,
+    depth: usize,
+    wait: usize,
+    left: usize,
 }
 
 // What goes on behind the end of a part: the Loops around, the arm that waits next, and the codes left.
@@ -160,57 +169,69 @@ fn put_action(word: u16, out: &mut [u16], from: usize, row: usize)
     );
 }
 
+// One turn of `lay`: the code there is written. Send and Receive come last; 7 is no code, and there all ends. The turns from the answer
+// on leave what those from here on leave.
+fn turn(src: &[u16], at: Walk, out: &mut [u16], from: usize, loops: &mut [u16]) -> Walk
+    requires { ⌜ InRange (at .left) (at .code) from (at .row) (at .depth) × (at .wait ≤ LIMIT) ⌝ }
+    ensures { λ r. ⌜ (rest (now (src .entry)) from at (now (out .entry)) (now (loops .entry)) ≡ rest (now (src .entry)) from r (now (out .exit)) (now (loops .exit)))
+        × (r .left < at .left) × (r .wait ≤ LIMIT) ⌝ }
+{
+    let word = words::peek(src, at.code);
+    let mut next = at;
+    next.code = at.code + 1;
+    next.left = at.left - 1;
+    let kind = word % KINDS;
+    match kind {
+        END | MARK | BACK => {
+            next.row = put_last(word, out, from, at.row, loops, at.depth);
+            let end = end_part(src, next.code, out, from, next.row, at.wait, next.left);
+            next.depth = end.depth;
+            next.wait = end.wait;
+            next.left = end.left;
+        }
+        ARM => {
+            open_arm(word, out, from, at.row, at.depth, at.wait);
+            next.row = at.row + 1;
+            next.wait = at.row + 1;
+        }
+        LOOP => {
+            put_loop(out, from, at.row, loops, at.depth);
+            next.row = at.row + 1;
+            next.depth = at.depth + 1;
+        }
+        7 => {
+            next.code = at.code;
+            next.left = 0;
+        }
+        _ => {
+            put_action(word, out, from, at.row);
+            next.row = at.row + 1;
+        }
+    }
+    next
+}
+
 // The codes of a part from `code` on written as the rows of the block that starts at row `from`. An arm's links are known when its
-// continuation is there, so the arms whose continuation is being written are chained through their own rows: `wait` is 0, or 1 + the
-// row of the innermost. Every turn is one code, so that `left` is never short of them.
-fn lay(src: &[u16], mut code: usize, out: &mut [u16], from: usize, loops: &mut [u16]) -> Laid
+// continuation is there, so the arms whose continuation is being written are chained through their own rows: the innermost is the one
+// that waits. Every turn is one code, so that `left` is never short of them.
+fn lay(src: &[u16], code: usize, out: &mut [u16], from: usize, loops: &mut [u16]) -> Laid
     ensures { λ r. ⌜ (r ≡ runS LIMIT (now (src .entry)) from code (now (out .entry)) 0 (now (loops .entry)) 0 0 .res)
         × (now (out .exit) ≡ runS LIMIT (now (src .entry)) from code (now (out .entry)) 0 (now (loops .entry)) 0 0 .out)
         × (now (loops .exit) ≡ runS LIMIT (now (src .entry)) from code (now (out .entry)) 0 (now (loops .entry)) 0 0 .loops) ⌝ }
 {
-    let mut row = 0;
-    let mut depth = 0;
-    let mut wait = 0;
-    let mut left = LIMIT;
-    while in_range(left, code, from, row, depth) {
-        left -= 1;
-        let word = words::peek(src, code);
-        // Send and Receive come last; 7 is no code.
-        let kind = word % KINDS;
-        match kind {
-            END | MARK | BACK => {
-                row = put_last(word, out, from, row, loops, depth);
-                code += 1;
-                let end = end_part(src, code, out, from, row, wait, left);
-                depth = end.depth;
-                wait = end.wait;
-                left = end.left;
-            }
-            ARM => {
-                open_arm(word, out, from, row, depth, wait);
-                code += 1;
-                row += 1;
-                wait = row;
-            }
-            LOOP => {
-                put_loop(out, from, row, loops, depth);
-                code += 1;
-                row += 1;
-                depth += 1;
-            }
-            7 => {
-                left = 0;
-            }
-            _ => {
-                put_action(word, out, from, row);
-                code += 1;
-                row += 1;
-            }
-        }
+    let mut at = Walk {
+        code: code,
+        row: 0,
+        depth: 0,
+        wait: 0,
+        left: LIMIT,
+    };
+    while in_range(at.left, at.code, from, at.row, at.depth) {
+        at = turn(src, at, out, from, loops);
     }
     Laid {
-        code: code,
-        row: row,
+        code: at.code,
+        row: at.row,
     }
 }
 

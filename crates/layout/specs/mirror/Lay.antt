@@ -12,6 +12,7 @@ use Rattle.parts.specs.mirror.Seven.{bySeven}
 use Rattle.parts.specs.mirror.Stands.{Stands}
 use Rattle.layout.specs.declared.Laid.{Laid}
 use Rattle.layout.specs.declared.Resumed.{Resumed}
+use Rattle.layout.specs.declared.Walk.{Walk}
 
 -- codes, rows and Loops are counted up to this
 abbrev pub LIMIT : ℕ
@@ -114,6 +115,10 @@ unfoldable pub runS : ℕ → List ℕ → ℕ → ℕ → List ℕ → ℕ → 
 runS zero s from i out row loops depth wait = stop i out row loops
 runS (suc n) s from i out row loops depth wait =
     turnBody (λ j o r l d w. runS n s from j o r l d w) (stepAt (suc n) s i from row depth) s from i out row loops depth wait
+
+-- what the turns from a place on leave
+abbrev pub rest : List ℕ → ℕ → Walk → List ℕ → List ℕ → Lay
+rest s from at out loops = runS (at .left) s from (at .code) out (at .row) loops (at .depth) (at .wait)
 
 -- the end of a part with n turns left
 abbrev pub endS : ℕ → List ℕ → ℕ → ℕ → List ℕ → ℕ → List ℕ → ℕ → Lay
