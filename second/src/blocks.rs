@@ -50,18 +50,19 @@ impl<'a> Blocks<'a> {
         number
     }
 
-    /// The continuation of the arm with a label, in the chain that starts at an Arm. The label is wide,
-    /// since a caller may ask for any number.
-    pub fn continuation(&self, role: usize, first: u16, label: u32) -> Option<usize> {
+    /// The continuation of the arm with a label, in the chain that starts at an Arm; failing that the lowest label
+    /// of the chain. The label is wide, since a caller may ask for any number.
+    pub fn continuation(&self, role: usize, first: u16, label: u32) -> Result<usize, u8> {
         let block = self.block(role);
         let mut arm = first as usize;
         loop {
             let [_, own, then, next] = row(block, arm);
             if u32::from(own) == label {
-                return Some(then as usize);
+                return Ok(then as usize);
             }
             if next == 0 {
-                return None;
+                // Labels rise along a chain and are at most 63.
+                return Err(row(block, first as usize)[1] as u8);
             }
             arm = next as usize;
         }

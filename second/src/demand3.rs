@@ -3,11 +3,12 @@
 //! For random tables that open, and random calls from a fresh session, refused ones among them: a call is
 //! accepted exactly when the step rules allow it and, for a send, the pair has room; received values are
 //! those of the step; the awaited answer is exactly the roles with such a call; STRAY, TABLES and STATE are
-//! never met; and until every role has ended and every queue is empty, somebody is awaited.
+//! never met; a send refused for its label offers the lowest label that the step rules allow (K2), every other call 64; and
+//! until every role has ended and every queue is empty, somebody is awaited.
 
 use crate::blocks::Blocks;
-use crate::limits::{DEPTH, MOST_ROLES, PAIRS};
-use crate::numbers::{ACCEPTED, FULL, STATE, STRAY, TABLES};
+use crate::limits::{DEPTH, MOST_ROLES, NO_LABEL, PAIRS};
+use crate::numbers::{ACCEPTED, FULL, LABEL, STATE, STRAY, TABLES};
 use crate::opening::open;
 use crate::plans::{protocol, Protocol};
 use crate::random::Random;
@@ -219,7 +220,7 @@ impl Judge<'_> {
         tally.calls += 1;
         match call {
             Call::Send(sender, receiver, label, payload) => {
-                self.check_send(sender, receiver, label, payload, tally)
+                self.check_send((sender, receiver), label, payload, steps, tally)
             }
             Call::Receive(sender, receiver) => self.check_receive(sender, receiver, steps, tally),
         }
@@ -227,18 +228,20 @@ impl Judge<'_> {
 
     fn check_send(
         &mut self,
-        sender: u32,
-        receiver: u32,
+        (sender, receiver): (u32, u32),
         label: u32,
         payload: u32,
+        steps: &[Step],
         tally: &mut Tally,
     ) -> Result<(), String> {
         // Arguments of a call here are at most 63, so they fit a message.
         let message = Message { sender: sender as u8, receiver: receiver as u8, label: label as u8, payload };
         let after = apply(&self.tree, &Step::Send(message));
         let given = self.session.clone();
-        let (number, left) = given.clone().send(self.tables, self.roles, sender, receiver, label, payload);
+        let (sent, left) = given.clone().send(self.tables, self.roles, sender, receiver, label, payload);
+        let number = sent.number;
         not_impossible(number)?;
+        expect(sent.offered == offered(number, steps, sender, receiver), || format!("offers {sent:?}"))?;
         match after {
             Some(tree) if self.has_room(&message) => {
                 expect(number == ACCEPTED, || format!("allowed, but {number}"))?;
@@ -270,6 +273,7 @@ impl Judge<'_> {
         let given = self.session.clone();
         let (received, left) = given.clone().receive(self.tables, self.roles, sender, receiver);
         not_impossible(received.number)?;
+        expect(received.offered == NO_LABEL, || format!("offers {received:?}"))?;
         match receive_step(steps, sender, receiver)? {
             Some(message) => {
                 expect(received.number == ACCEPTED, || format!("allowed, but {received:?}"))?;
@@ -321,7 +325,8 @@ impl Judge<'_> {
             expect(listed == apply(&self.tree, &step).is_some(), || {
                 format!("listed {listed}, taken otherwise: {step:?}")
             })?;
-            let (number, _) = self.session.clone().send(self.tables, self.roles, sender, receiver, label, 0);
+            let (sent, _) = self.session.clone().send(self.tables, self.roles, sender, receiver, label, 0);
+            let number = sent.number;
             expect((number == ACCEPTED) == (listed && self.has_room(&message)), || {
                 format!("probe {step:?}: {number}, listed {listed}")
             })?;
@@ -332,6 +337,19 @@ impl Judge<'_> {
             format!("probe receive {sender} {receiver}: {received:?}, listed {listed}")
         })?;
         Ok(probes)
+    }
+}
+
+/// The label that a send offers: refused for its label, the lowest that the step rules let the pair send; else 64.
+fn offered(number: u8, steps: &[Step], sender: u32, receiver: u32) -> u8 {
+    let sent = steps.iter().filter_map(|step| match step {
+        Step::Send(m) if u32::from(m.sender) == sender && u32::from(m.receiver) == receiver => Some(m.label),
+        _ => None,
+    });
+    if number == LABEL {
+        sent.min().unwrap_or(NO_LABEL)
+    } else {
+        NO_LABEL
     }
 }
 

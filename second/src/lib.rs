@@ -22,5 +22,5 @@ pub mod steps;
 pub mod table;
 
 pub use opening::open;
-pub use session::{fresh, Awaited, Received, Session};
+pub use session::{fresh, Awaited, Received, Sent, Session};
 pub use table::Verdict;

@@ -10,6 +10,8 @@ pub const ROW: usize = 4;
 pub const MOST_ROWS: usize = 256;
 /// Highest label.
 pub const TOP_LABEL: u16 = 63;
+/// Stands where no label is offered: one past the highest.
+pub const NO_LABEL: u8 = TOP_LABEL as u8 + 1;
 /// Slots of one ordered pair of roles.
 pub const DEPTH: usize = 4;
 /// Ordered pairs of roles, a role with itself included.

@@ -6,8 +6,10 @@
 //! | `t ROLES WORD...` | `NUMBER` of a fresh state over these tables |
 //! | `f` | `NUMBER H0 .. H7` |
 //! | `h` and 584 numbers | `NUMBER SET COUNT LOWEST` |
-//! | `s SENDER RECEIVER LABEL PAYLOAD` | `NUMBER SET COUNT LOWEST` |
-//! | `r SENDER RECEIVER` | `NUMBER LABEL PAYLOAD SET COUNT LOWEST` |
+//! | `s SENDER RECEIVER LABEL PAYLOAD` | `NUMBER OFFERED SET COUNT LOWEST` |
+//! | `r SENDER RECEIVER` | `NUMBER LABEL PAYLOAD OFFERED SET COUNT LOWEST` |
+//!
+//! OFFERED is the lowest label that the head offers where the call is refused with 16 or 19, else 64.
 //!
 //! Reading a line. A line is the bytes up to a newline (byte 10), or up to the end of the input where no
 //! newline follows; after the last newline there is no further line. It is one command letter, then for
@@ -33,7 +35,7 @@
 use crate::limits::{DEPTH, MOST_ROLES, MOST_ROWS, PAIRS, ROW, SLOTS};
 use crate::numbers::ACCEPTED;
 use crate::opening::open;
-use crate::session::{fresh, Awaited, Session};
+use crate::session::{fresh, Awaited, Received, Session};
 use std::io::{self, BufRead, Write};
 
 /// Numbers of an `h` line: heads, counts, labels, payloads.
@@ -130,17 +132,17 @@ impl Bench {
 
     fn send(&mut self, sender: u32, receiver: u32, label: u32, payload: u32) -> String {
         let given = std::mem::replace(&mut self.session, Session::ZERO);
-        let (number, left) = given.send(&self.tables, self.roles, sender, receiver, label, payload);
+        let (sent, left) = given.send(&self.tables, self.roles, sender, receiver, label, payload);
         self.session = left;
-        format!("{} {}", number, shown(&self.awaited()))
+        format!("{} {} {}", sent.number, sent.offered, shown(&self.awaited()))
     }
 
     fn receive(&mut self, sender: u32, receiver: u32) -> String {
         let given = std::mem::replace(&mut self.session, Session::ZERO);
         let (received, left) = given.receive(&self.tables, self.roles, sender, receiver);
         self.session = left;
-        let awaited = self.awaited();
-        format!("{} {} {} {}", received.number, received.label, received.payload, shown(&awaited))
+        let Received { number, label, payload, offered } = received;
+        format!("{number} {label} {payload} {offered} {}", shown(&self.awaited()))
     }
 
     fn awaited(&self) -> Awaited {

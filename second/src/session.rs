@@ -4,7 +4,7 @@
 //! arguments are wide, so that numbers out of range can be said and are refused, not cut off.
 
 use crate::blocks::Blocks;
-use crate::limits::{DEPTH, MOST_ROLES, PAIRS, SLOTS, TOP_LABEL};
+use crate::limits::{DEPTH, MOST_ROLES, NO_LABEL, PAIRS, SLOTS, TOP_LABEL};
 use crate::numbers::{ACCEPTED, EMPTY, FULL, LABEL, PARTY, STATE, STRAY, TABLES, TURN};
 use crate::parts::{RECEIVE, SEND};
 use crate::table::END;
@@ -27,12 +27,35 @@ pub struct Awaited {
     pub lowest: u8,
 }
 
-/// What a receive answers, beside the state it leaves.
+/// What a send answers, beside the state it leaves. Refused with 16, `offered` is the lowest label of the head;
+/// else it is 64.
+#[derive(Clone, Copy, Debug, PartialEq, Eq)]
+pub struct Sent {
+    pub number: u8,
+    pub offered: u8,
+}
+
+/// What a receive answers, beside the state it leaves. Refused with 19, `offered` is the lowest label of the head;
+/// else it is 64.
 #[derive(Clone, Copy, Debug, PartialEq, Eq)]
 pub struct Received {
     pub number: u8,
     pub label: u8,
     pub payload: u32,
+    pub offered: u8,
+}
+
+/// Why a call is refused, and the label that would have been taken.
+struct Refusal {
+    number: u8,
+    offered: u8,
+}
+
+impl From<u8> for Refusal {
+    /// Every refusal but that of an arm lookup offers no label.
+    fn from(number: u8) -> Refusal {
+        Refusal { number, offered: NO_LABEL }
+    }
 }
 
 /// A call that is accepted: whose head moves, where to, and over which pair.
@@ -68,14 +91,14 @@ impl Session {
         receiver: u32,
         label: u32,
         payload: u32,
-    ) -> (u8, Session) {
+    ) -> (Sent, Session) {
         match self.judge_send(tables, roles, sender, receiver, label) {
-            Err(number) => (number, self),
+            Err(Refusal { number, offered }) => (Sent { number, offered }, self),
             Ok(accepted) => {
                 self.heads[accepted.role] = accepted.head as u16;
                 // LABEL was tested, so the label is at most 63.
                 self.append(accepted.pair, label as u8, payload);
-                (ACCEPTED, self)
+                (Sent { number: ACCEPTED, offered: NO_LABEL }, self)
             }
         }
     }
@@ -83,11 +106,11 @@ impl Session {
     /// A receive; refused, label and payload are 0 and the state comes back as it was given.
     pub fn receive(mut self, tables: &[u16], roles: u32, sender: u32, receiver: u32) -> (Received, Session) {
         match self.judge_receive(tables, roles, sender, receiver) {
-            Err(number) => (Received { number, label: 0, payload: 0 }, self),
+            Err(Refusal { number, offered }) => (Received { number, label: 0, payload: 0, offered }, self),
             Ok(accepted) => {
                 self.heads[accepted.role] = accepted.head as u16;
                 let (label, payload) = self.take_oldest(accepted.pair);
-                (Received { number: ACCEPTED, label, payload }, self)
+                (Received { number: ACCEPTED, label, payload, offered: NO_LABEL }, self)
             }
         }
     }
@@ -128,26 +151,30 @@ impl Session {
         sender: u32,
         receiver: u32,
         label: u32,
-    ) -> Result<Move, u8> {
+    ) -> Result<Move, Refusal> {
         let blocks = self.read(tables, roles)?;
         let (sender, receiver) = parties(roles, sender, receiver)?;
         let first = self.turn(&blocks, sender, SEND, receiver)?;
-        let then = blocks.continuation(sender, first, label).ok_or(LABEL)?;
+        let then = blocks
+            .continuation(sender, first, label)
+            .map_err(|offered| Refusal { number: LABEL, offered })?;
         let pair = pair(sender, receiver);
         if self.counts[pair] as usize == DEPTH {
-            return Err(FULL);
+            return Err(FULL.into());
         }
         Ok(Move { role: sender, head: blocks.head(sender, then), pair })
     }
 
     /// Rules 12 to 15, 18 and 19.
-    fn judge_receive(&self, tables: &[u16], roles: u32, sender: u32, receiver: u32) -> Result<Move, u8> {
+    fn judge_receive(&self, tables: &[u16], roles: u32, sender: u32, receiver: u32) -> Result<Move, Refusal> {
         let blocks = self.read(tables, roles)?;
         let (sender, receiver) = parties(roles, sender, receiver)?;
         let first = self.turn(&blocks, receiver, RECEIVE, sender)?;
         let pair = pair(sender, receiver);
         let label = self.oldest_label(pair).ok_or(EMPTY)?;
-        let then = blocks.continuation(receiver, first, label).ok_or(STRAY)?;
+        let then = blocks
+            .continuation(receiver, first, label)
+            .map_err(|offered| Refusal { number: STRAY, offered })?;
         Ok(Move { role: receiver, head: blocks.head(receiver, then), pair })
     }
 
@@ -168,7 +195,7 @@ impl Session {
             SEND => (self.counts[pair(role, peer as usize)] as usize) < DEPTH,
             RECEIVE => self
                 .oldest_label(pair(peer as usize, role))
-                .is_some_and(|label| blocks.continuation(role, first, label).is_some()),
+                .is_some_and(|label| blocks.continuation(role, first, label).is_ok()),
             _ => false,
         }
     }

@@ -39,7 +39,7 @@ fn the_cases_kept_here() {
 #[test]
 fn the_cases_beside_the_repository() {
     let shared = folder().join("../../shared/cases");
-    compare(&shared.join("k4.in"), &shared.join("k4.out"));
+    compare(&shared.join("k4-2.in"), &shared.join("k4-2.out"));
 }
 
 #[test]
@@ -72,7 +72,7 @@ fn malformed_lines_are_answered_so_and_change_nothing() {
         assert_eq!(bench.answer(line), "?", "{line:?}");
         assert_eq!((&bench.tables, &bench.session), (&tables, &session), "{line:?}");
     }
-    assert_eq!(bench.answer(b"r 0 1"), "0 5 7 0 0 8");
+    assert_eq!(bench.answer(b"r 0 1"), "0 5 7 64 0 0 8");
 }
 
 #[test]
@@ -80,12 +80,12 @@ fn widths_of_numbers() {
     let mut bench = Bench::default();
     bench.answer(b"o 2 4294967295 1 0 1 1 2 5 2 0 0 0 0 0");
     assert_eq!(bench.answer(b"f"), "0 0 0 0 0 0 0 0 0");
-    assert_eq!(bench.answer(b"s 4294967295 1 5 7"), "14 1 1 0");
+    assert_eq!(bench.answer(b"s 4294967295 1 5 7"), "14 64 1 1 0");
     assert_eq!(bench.answer(b"s 4294967296 1 5 7"), "?");
-    assert_eq!(bench.answer(b"s 0 1 4294967295 7"), "16 1 1 0");
+    assert_eq!(bench.answer(b"s 0 1 4294967295 7"), "16 5 1 1 0");
     assert_eq!(bench.answer(b"s 0 1 5 4294967296"), "?");
-    assert_eq!(bench.answer(b"s 000 01 0000000000000005 00000000004294967295"), "0 2 1 1");
-    assert_eq!(bench.answer(b"r 0 1"), "0 5 4294967295 0 0 8");
+    assert_eq!(bench.answer(b"s 000 01 0000000000000005 00000000004294967295"), "0 64 2 1 1");
+    assert_eq!(bench.answer(b"r 0 1"), "0 5 4294967295 64 0 0 8");
     assert_eq!(bench.answer(b"o 2 24 65536"), "?");
     assert_eq!(bench.answer(b"o 2 24 65535"), "1 0");
     assert_eq!(bench.answer(b"o 4294967295 24 65535 0 0 0"), "2 0");
@@ -117,19 +117,19 @@ fn widths_in_a_hand_made_state() {
 #[test]
 fn what_is_kept_between_lines() {
     let mut bench = Bench::default();
-    assert_eq!(bench.answer(b"s 0 1 5 7"), "12 0 0 8");
-    assert_eq!(bench.answer(b"r 0 1"), "12 0 0 0 0 8");
+    assert_eq!(bench.answer(b"s 0 1 5 7"), "12 64 0 0 8");
+    assert_eq!(bench.answer(b"r 0 1"), "12 0 0 64 0 0 8");
     let opening = b"o 2 24 1 0 1 1 2 5 2 0 0 0 0 0";
     bench.answer(opening);
-    assert_eq!(bench.answer(b"s 0 1 5 7"), "0 2 1 1", "the state of zeros is fresh here, without f");
+    assert_eq!(bench.answer(b"s 0 1 5 7"), "0 64 2 1 1", "the state of zeros is fresh here, without f");
     assert_eq!(bench.answer(b"o 2 23 1 0 1 1 2 5 2 0 0 0 0 0"), "3 0");
-    assert_eq!(bench.answer(b"r 0 1"), "12 0 0 0 0 8", "a refused opening leaves no tables");
+    assert_eq!(bench.answer(b"r 0 1"), "12 0 0 64 0 0 8", "a refused opening leaves no tables");
     bench.answer(opening);
-    assert_eq!(bench.answer(b"r 0 1"), "0 5 7 0 0 8", "but it leaves the state");
+    assert_eq!(bench.answer(b"r 0 1"), "0 5 7 64 0 0 8", "but it leaves the state");
     assert_eq!(bench.answer(b"t 2 1 1 1 1"), "12");
     assert_eq!(bench.answer(b"f"), "12 0 0 0 0 0 0 0 0");
     bench.answer(opening);
-    assert_eq!(bench.answer(b"s 0 1 5 8"), "0 2 1 1", "a refused f leaves the state of zeros");
+    assert_eq!(bench.answer(b"s 0 1 5 8"), "0 64 2 1 1", "a refused f leaves the state of zeros");
 }
 
 #[test]
@@ -167,6 +167,26 @@ fn generated_cases_meet_every_number_in_every_command() {
             assert!(met.contains(&(command, "?".to_string())), "seed {seed}: {command} ?");
         }
     }
+}
+
+#[test]
+fn generated_cases_offer_labels() {
+    let mut bench = Bench::default();
+    let mut offered = std::collections::BTreeSet::new();
+    for line in cases(4, 6_000) {
+        let answer = bench.answer(line.as_bytes());
+        let numbers: Vec<&str> = answer.split(' ').collect();
+        match (line.as_bytes().first(), numbers[0]) {
+            (Some(b's'), "16") => offered.insert(('s', numbers[1].to_string())),
+            (Some(b'r'), "19") => offered.insert(('r', numbers[3].to_string())),
+            _ => false,
+        };
+    }
+    for command in ['s', 'r'] {
+        let labels = offered.iter().filter(|(said, _)| *said == command).count();
+        assert!(labels > 2, "{command} {offered:?}");
+    }
+    assert!(offered.iter().all(|(_, label)| label != "64"));
 }
 
 #[test]

@@ -59,12 +59,12 @@ fn t2_role_2_keeps_both_labels() {
 fn t2_role_2_takes_label_4() {
     let (roles, tables) = tables("T2");
     let (_, session) = fresh(&tables, roles);
-    let (number, session) = session.send(&tables, roles, 0, 1, 2, 0);
-    assert_eq!(number, 0);
+    let (sent, session) = session.send(&tables, roles, 0, 1, 2, 0);
+    assert_eq!(sent.number, 0);
     let (received, session) = session.receive(&tables, roles, 0, 1);
     assert_eq!((received.number, received.label), (0, 2));
-    let (number, session) = session.send(&tables, roles, 1, 2, 4, 77);
-    assert_eq!(number, 0);
+    let (sent, session) = session.send(&tables, roles, 1, 2, 4, 77);
+    assert_eq!(sent.number, 0);
     let (received, session) = session.receive(&tables, roles, 1, 2);
     assert_eq!((received.number, received.label, received.payload), (0, 4, 77));
     assert_eq!(session.awaited(&tables, roles).lowest, 8);
@@ -80,18 +80,18 @@ fn t5_fifth_send_is_full_until_one_is_received() {
     let (roles, tables) = tables("T5");
     let (_, mut session) = fresh(&tables, roles);
     for payload in 1..=4 {
-        let (number, after) = session.send(&tables, roles, 0, 1, 1, payload);
-        assert_eq!(number, 0);
+        let (sent, after) = session.send(&tables, roles, 0, 1, 1, payload);
+        assert_eq!(sent.number, 0);
         session = after;
     }
     let given = session.clone();
-    let (number, session) = session.send(&tables, roles, 0, 1, 1, 5);
-    assert_eq!((number, &session), (17, &given));
+    let (sent, session) = session.send(&tables, roles, 0, 1, 1, 5);
+    assert_eq!((sent.number, &session), (17, &given));
     assert_eq!(session.awaited(&tables, roles).set, 0b10, "role 0 has no room, role 1 a message");
     let (received, session) = session.receive(&tables, roles, 0, 1);
     assert_eq!((received.number, received.label, received.payload), (0, 1, 1));
-    let (number, session) = session.send(&tables, roles, 0, 1, 1, 5);
-    assert_eq!(number, 0);
+    let (sent, session) = session.send(&tables, roles, 0, 1, 1, 5);
+    assert_eq!(sent.number, 0);
     assert_eq!(session.payloads[4..8], [2, 3, 4, 5]);
 }
 
@@ -106,8 +106,8 @@ fn t7_role_2_sends_again() {
     let (roles, tables) = tables("T7");
     let (_, mut session) = fresh(&tables, roles);
     for payload in 0..4 {
-        let (number, after) = session.send(&tables, roles, 2, 0, 7, payload);
-        assert_eq!(number, 0);
+        let (sent, after) = session.send(&tables, roles, 2, 0, 7, payload);
+        assert_eq!(sent.number, 0);
         session = after;
     }
 }
@@ -123,17 +123,17 @@ fn t8_role_2_votes_before_the_choice_and_hears_its_reply() {
     let (roles, tables) = tables("T8");
     let (_, session) = fresh(&tables, roles);
     assert_eq!(session.awaited(&tables, roles).set, 0b101, "role 2 need not know the choice to vote");
-    let (number, session) = session.send(&tables, roles, 2, 1, 5, 9);
-    assert_eq!(number, 0);
-    let (number, session) = session.send(&tables, roles, 0, 1, 2, 0);
-    assert_eq!(number, 0);
+    let (sent, session) = session.send(&tables, roles, 2, 1, 5, 9);
+    assert_eq!(sent.number, 0);
+    let (sent, session) = session.send(&tables, roles, 0, 1, 2, 0);
+    assert_eq!(sent.number, 0);
     let (_, session) = session.receive(&tables, roles, 0, 1);
     let (received, session) = session.receive(&tables, roles, 2, 1);
     assert_eq!((received.number, received.label, received.payload), (0, 5, 9));
-    let (number, session) = session.send(&tables, roles, 1, 2, 6, 0);
-    assert_eq!(number, 16, "6 is the reply to the other choice");
-    let (number, session) = session.send(&tables, roles, 1, 2, 7, 0);
-    assert_eq!(number, 0);
+    let (sent, session) = session.send(&tables, roles, 1, 2, 6, 0);
+    assert_eq!(sent.number, 16, "6 is the reply to the other choice");
+    let (sent, session) = session.send(&tables, roles, 1, 2, 7, 0);
+    assert_eq!(sent.number, 0);
     let (received, session) = session.receive(&tables, roles, 1, 2);
     assert_eq!((received.number, received.label), (0, 7));
     assert_eq!(session.awaited(&tables, roles).lowest, 8);

@@ -1,6 +1,6 @@
-//! Rules 12 to 19, a good and a bad case each, and the order in which calls test them.
+//! Rules 12 to 19, a good and a bad case each, the order in which calls test them, and what a refusal offers (K2).
 
-use second::{fresh, Session};
+use second::{fresh, Sent, Session};
 
 const END: [u16; 4] = [0; 4];
 
@@ -180,33 +180,33 @@ fn rule_13_queues() {
 fn rule_14_party() {
     let tables = tables();
     for (sender, receiver) in [(0, 0), (2, 0), (0, 2), (9, 9), (256, 1), (0, 257), (u32::MAX, 1)] {
-        assert_eq!(start().send(&tables, 2, sender, receiver, 3, 0).0, 14);
+        assert_eq!(start().send(&tables, 2, sender, receiver, 3, 0).0.number, 14);
         assert_eq!(start().receive(&tables, 2, sender, receiver).0.number, 14);
     }
-    assert_eq!(start().send(&tables, 2, 0, 1, 3, 0).0, 0);
+    assert_eq!(start().send(&tables, 2, 0, 1, 3, 0).0.number, 0);
 }
 
 #[test]
 fn rule_15_turn() {
     let tables = tables();
-    assert_eq!(start().send(&tables, 2, 1, 0, 3, 0).0, 15, "a Receive is no Send");
+    assert_eq!(start().send(&tables, 2, 1, 0, 3, 0).0.number, 15, "a Receive is no Send");
     assert_eq!(start().receive(&tables, 2, 1, 0).0.number, 15, "a Send is no Receive");
     let mut ended = start();
     ended.heads[0] = 5;
-    assert_eq!(ended.send(&tables, 2, 0, 1, 3, 0).0, 15, "an End is neither");
+    assert_eq!(ended.send(&tables, 2, 0, 1, 3, 0).0.number, 15, "an End is neither");
     let three = [tables.clone(), vec![0; 24]].concat();
     let (_, session) = fresh(&three, 3);
-    assert_eq!(session.send(&three, 3, 0, 2, 3, 0).0, 15, "another peer");
+    assert_eq!(session.send(&three, 3, 0, 2, 3, 0).0.number, 15, "another peer");
 }
 
 #[test]
 fn rule_16_label() {
     let tables = tables();
     for label in [0, 5, 63, 64, 255, 259, 65539, u32::MAX] {
-        assert_eq!(start().send(&tables, 2, 0, 1, label, 0).0, 16, "{label}");
+        assert_eq!(start().send(&tables, 2, 0, 1, label, 0).0.number, 16, "{label}");
     }
     for label in [3, 4] {
-        assert_eq!(start().send(&tables, 2, 0, 1, label, 0).0, 0);
+        assert_eq!(start().send(&tables, 2, 0, 1, label, 0).0.number, 0);
     }
 }
 
@@ -215,10 +215,10 @@ fn rule_17_full() {
     let tables = tables();
     let mut session = start();
     session.counts[1] = 4;
-    assert_eq!(session.clone().send(&tables, 2, 0, 1, 3, 0).0, 17);
-    assert_eq!(session.clone().send(&tables, 2, 0, 1, 9, 0).0, 16, "LABEL before FULL");
+    assert_eq!(session.clone().send(&tables, 2, 0, 1, 3, 0).0.number, 17);
+    assert_eq!(session.clone().send(&tables, 2, 0, 1, 9, 0).0.number, 16, "LABEL before FULL");
     session.counts[1] = 3;
-    assert_eq!(session.send(&tables, 2, 0, 1, 3, 0).0, 0);
+    assert_eq!(session.send(&tables, 2, 0, 1, 3, 0).0.number, 0);
 }
 
 #[test]
@@ -242,7 +242,7 @@ fn rule_19_stray() {
     let given = session.clone();
     assert_eq!(session.awaited(&tables(), 2).set, 0b01, "a stray message makes nobody awaited");
     let (received, left) = session.receive(&tables(), 2, 0, 1);
-    assert_eq!((received.number, received.label, received.payload), (19, 0, 0));
+    assert_eq!((received.number, received.label, received.payload, received.offered), (19, 0, 0, 3));
     assert_eq!(left, given);
 }
 
@@ -250,12 +250,55 @@ fn rule_19_stray() {
 fn calls_test_in_order() {
     let mut bad_state = start();
     bad_state.heads[0] = 0;
-    assert_eq!(bad_state.clone().send(&[], 2, 9, 9, 99, 0).0, 12);
-    assert_eq!(bad_state.clone().send(&tables(), 2, 9, 9, 99, 0), (13, bad_state.clone()));
+    assert_eq!(bad_state.clone().send(&[], 2, 9, 9, 99, 0).0.number, 12);
+    let refused = Sent { number: 13, offered: 64 };
+    assert_eq!(bad_state.clone().send(&tables(), 2, 9, 9, 99, 0), (refused, bad_state.clone()));
     assert_eq!(bad_state.clone().receive(&[], 2, 9, 9).0.number, 12);
     let (received, left) = bad_state.clone().receive(&tables(), 2, 9, 9);
     assert_eq!((received.number, left), (13, bad_state));
-    assert_eq!(start().send(&tables(), 2, 1, 0, 99, 0).0, 15, "TURN before LABEL");
+    assert_eq!(start().send(&tables(), 2, 1, 0, 99, 0).0.number, 15, "TURN before LABEL");
+}
+
+/// Number and offered label of a send and of a receive from role 0 to role 1.
+fn offers(session: &Session, tables: &[u16], label: u32) -> [(u8, u8); 2] {
+    let (sent, _) = session.clone().send(tables, 2, 0, 1, label, 0);
+    let (received, _) = session.clone().receive(tables, 2, 0, 1);
+    [(sent.number, sent.offered), (received.number, received.offered)]
+}
+
+#[test]
+fn a_failed_lookup_offers_the_lowest_label() {
+    let mut session = start();
+    (session.counts[1], session.labels[4]) = (1, 9);
+    assert_eq!(offers(&session, &tables(), 5), [(16, 3), (19, 3)]);
+    assert_eq!(offers(&session, &tables(), u32::MAX), [(16, 3), (19, 3)]);
+    session.counts[1] = 4;
+    assert_eq!(offers(&session, &tables(), 5), [(16, 3), (19, 3)], "LABEL before FULL");
+    let other = with_row(2, [2, 0, 4, 3]);
+    assert_eq!(
+        offers(&session, &other, 5),
+        [(16, 0), (19, 3)],
+        "each role's own head; a label of 0 is offered too"
+    );
+    let other = with_row(1, [5, 1, 3, 0]);
+    assert_eq!(offers(&session, &other, 3), [(16, 4), (19, 3)], "only the head's own chain counts");
+}
+
+#[test]
+fn every_other_answer_offers_64() {
+    let tables = tables();
+    assert_eq!(offers(&start(), &tables, 3), [(0, 64), (18, 64)]);
+    let (_, mut session) = start().send(&tables, 2, 0, 1, 4, 8);
+    assert_eq!(offers(&session, &tables, 4), [(0, 64), (0, 64)], "accepted");
+    session.counts[1] = 4;
+    assert_eq!(offers(&session, &tables, 4)[0], (17, 64));
+    assert_eq!(offers(&session, &tables[4..], 4), [(12, 64), (12, 64)]);
+    session.heads[0] = 5;
+    assert_eq!(offers(&session, &tables, 99)[0], (15, 64), "an End offers nothing");
+    session.heads[0] = 4;
+    assert_eq!(offers(&session, &tables, 99), [(13, 64), (13, 64)]);
+    assert_eq!(start().send(&tables, 2, 1, 1, 99, 0).0, Sent { number: 14, offered: 64 });
+    assert_eq!(start().receive(&tables, 2, 2, 1).0.offered, 64);
 }
 
 #[test]
@@ -265,8 +308,8 @@ fn queues_are_first_in_first_out_and_slots_are_used_again() {
     let mut next = 0;
     for round in 0..10 {
         while session.counts[1] < 4 {
-            let (number, after) = session.send(&tables, 2, 0, 1, 3, next);
-            assert_eq!(number, 0);
+            let (sent, after) = session.send(&tables, 2, 0, 1, 3, next);
+            assert_eq!(sent.number, 0);
             (session, next) = (after, next + 1);
         }
         let (received, after) = session.receive(&tables, 2, 0, 1);

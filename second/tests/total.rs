@@ -62,9 +62,9 @@ fn call_anything(random: &mut Random, tables: &[u16], roles: u32) {
         assert_eq!(u32::from(awaited.count), awaited.set.count_ones());
         let number = if random.chance(50) {
             let label = random.below(70) as u32;
-            let (number, left) = state.send(tables, roles, sender, receiver, label, 5);
+            let (sent, left) = state.send(tables, roles, sender, receiver, label, 5);
             state = left;
-            number
+            sent.number
         } else {
             let (received, left) = state.receive(tables, roles, sender, receiver);
             state = left;
