@@ -1,15 +1,18 @@
 -- Laws of the rows of a block: what a kind decides, one step towards a head, one step along a chain. Assumes nothing.
-use Prim.Native.Nat.{ℕ, zero, suc, _+_, _*_, _≤_}
+use Prim.Native.Nat.{ℕ, zero, suc, _+_, _*_, _≤_, min}
+use mathlib.Core.Bool.{Bool, true, false, cond}
 use mathlib.Core.List.{List, [], _∷_}
 use mathlib.Core.Path.{_≡_, refl, sym, _∙_, ap}
-use mathlib.Core.Option.{none, some}
+use mathlib.Core.Option.{some}
+use lib.Dec.{eqb}
 use lib.ListN.{length, List·getD-eq-default}
 use native.Mathlib.Omega.{arith}
 use borrow.Author.Tests.{eq-eqb, ne-eqb}
 use Rattle.blocks.specs.Block.{partRowOf}
-use Rattle.blocks.specs.Head.{onward, armThen, find, ArmAt}
-use Rattle.blocks.specs.mirror.Rows.{words, said, rowAt, followAt, chainAt}
+use Rattle.blocks.specs.Head.{onward, armThen, find, lowestLabel, ArmAt}
+use Rattle.blocks.specs.mirror.Rows.{words, said, rowAt, followAt, chainAt, foundOf, lookup}
 use Rattle.blocks.specs.declared.rows.Row.{Row}
+use Rattle.blocks.specs.declared.rows.Found.the-variants.{At, Nothing}
 
 -- past the end of the tables every word is 0
 pub words-past : (ts : List ℕ) (at : ℕ) → length ts ≤ at * 4 → record { kind = 0; first = 0; second = 0; third = 0 } ≡ words ts at
@@ -82,18 +85,30 @@ module _ (ts : List ℕ) (start l : ℕ) {n m i j : ℕ} {w : Row} (e : n ≡ su
   chain-read : chainAt n ts start i ≡ armThen (λ x. chainAt m ts start x) (said w)
   chain-read = rw e (chain-step ts start m i z ∙ ap (armThen (λ x. chainAt m ts start x)) (row-read ts start r read))
 
-  pub find-end : (w .kind ≡ 2 → ⊥) → find l (chainAt n ts start i) ≡ none
-  unfolding find
-  find-end h = rw (chain-read, chain-ends (λ x. chainAt m ts start x) (w .kind) (w .first) (w .second) (w .third) h)
+  pub lookup-end : (k : ℕ) → (w .kind ≡ 2 → ⊥) → lookup l k (chainAt n ts start i) ≡ Nothing k
+  unfolding lookup
+  lookup-end k h = rw (chain-read, chain-ends (λ x. chainAt m ts start x) (w .kind) (w .first) (w .second) (w .third) h)
 
   arm-read : w .kind ≡ 2 → chainAt n ts start i ≡ record { label = w .first; continuation = w .second } ∷ chainAt m ts start (w .third)
   unfolding armThen
   arm-read k = rw (chain-read, k)
 
-  pub find-here : w .kind ≡ 2 → w .first ≡ l → find l (chainAt n ts start i) ≡ some (w .second)
-  unfolding find
-  find-here k h = rw (arm-read k, h, eq-eqb l l refl)
+  pub lookup-here : (k : ℕ) → w .kind ≡ 2 → w .first ≡ l → lookup l k (chainAt n ts start i) ≡ At (w .second)
+  unfolding lookup
+  lookup-here k d h = rw (arm-read d, h, eq-eqb l l refl)
 
-  pub find-on : w .kind ≡ 2 → (w .first ≡ l → ⊥) → find l (chainAt n ts start i) ≡ find l (chainAt m ts start (w .third))
-  unfolding find
-  find-on k h = rw (arm-read k, find, ne-eqb l (w .first) (λ q. h (sym q)))
+  pub lookup-on : (k k′ : ℕ) → w .kind ≡ 2 → (w .first ≡ l → ⊥) → k′ ≡ min k (w .first)
+      → lookup l k (chainAt n ts start i) ≡ lookup l k′ (chainAt m ts start (w .third))
+  unfolding lookup
+  lookup-on k k′ d h e = rw (arm-read d, lookup, ne-eqb l (w .first) (λ q. h (sym q)), e)
+
+-- one walk finds the arm, or the lowest label
+pub lookup-is : (l k : ℕ) (arms : List ArmAt) → lookup l k arms ≡ foundOf (find l arms) (lowestLabel k arms)
+unfolding lookup find lowestLabel
+lookup-is l k [] = refl
+lookup-is l k (a ∷ as′) = go (eqb l (a .label)) (lookup-is l (min k (a .label)) as′)
+  where
+    go : (b : Bool) → lookup l (min k (a .label)) as′ ≡ foundOf (find l as′) (lowestLabel (min k (a .label)) as′)
+        → cond b (At (a .continuation)) (lookup l (min k (a .label)) as′) ≡ foundOf (cond b (some (a .continuation)) (find l as′)) (lowestLabel (min k (a .label)) as′)
+    go true h = refl
+    go false h = h

@@ -1,5 +1,5 @@
 -- Document 01: the head of a row, and the arms of a head. Assumes nothing.
-use Prim.Native.Nat.{ℕ, zero, suc}
+use Prim.Native.Nat.{ℕ, zero, suc, min}
 use mathlib.Core.Bool.{Bool, cond}
 use mathlib.Core.List.{List, [], _∷_}
 use mathlib.Core.Option.{Option, none, some}
@@ -60,3 +60,8 @@ armsOf ts roles r first = chain (blockRows ts roles) ts roles r first
 unfoldable pub find : ℕ → List ArmAt → Option ℕ
 find l [] = none
 find l (a ∷ as′) = cond (eqb l (a .label)) (some (a .continuation)) (find l as′)
+
+-- the lowest label of these arms, or k where none is lower
+unfoldable pub lowestLabel : ℕ → List ArmAt → ℕ
+lowestLabel k [] = k
+lowestLabel k (a ∷ as′) = lowestLabel (min k (a .label)) as′

@@ -1,8 +1,10 @@
 // The rows of one role's block. A block is named by its first row among the rows of the tables, `start`, and by how many rows it has.
+use table::Table;
 ghost use mathlib.Core.Path.{_≡_};
-ghost use Prim.Native.Nat.{_+_};
+ghost use Prim.Native.Nat.{_+_, min};
+ghost use Rattle.table.specs.Limits.{base};
 ghost use Rattle.blocks.specs.Block.{isHead};
-ghost use Rattle.blocks.specs.Head.{find};
+ghost use Rattle.blocks.specs.Head.{find, lowestLabel};
 ghost use Rattle.blocks.specs.mirror.Rows.{words, noWords, said, followAt, chainAt, foundOf};
 
 // The first word decides what the other three hold.
@@ -27,10 +29,15 @@ impl Row {
     pub const RECEIVE: u16 = 6;
 }
 
-// The arm lookup's answer: the continuation, or nothing where the label is not among the arms.
+// The arm lookup's answer: the continuation, or, where the label is not among the arms, the lowest label that is.
 pub enum Found {
     At(u16),
-    Nothing,
+    Nothing(u16),
+}
+
+impl Found {
+    // The lowest label of no arm: no label is so high.
+    pub const NOLABEL: u16 = Table::LABELS as u16;
 }
 
 // No row of the tables: its words are 0.
@@ -98,27 +105,40 @@ pub fn head(tables: &[u16], start: usize, rows: usize, row: u16) -> u16
     at
 }
 
-// The continuation of the arm with that label, in the chain that starts at `first`: the one lookup of send, receive and awaited.
+fn lower(a: u16, b: u16) -> u16
+    ensures { λ r. ⌜ r ≡ min a b ⌝ }
+{
+    if a < b {
+        a
+    } else {
+        b
+    }
+}
+
+// The continuation of the arm with that label, in the chain that starts at `first`: the one lookup of send, receive and awaited. A lookup
+// that fails has met every arm, and so knows the lowest label.
 pub fn find_arm(tables: &[u16], start: usize, rows: usize, first: u16, label: usize) -> Found
-    ensures { λ r. ⌜ r ≡ foundOf (find label (chainAt rows (now (tables .entry)) start first)) ⌝ }
+    ensures { λ r. ⌜ r ≡ foundOf (find label (chainAt rows (now (tables .entry)) start first)) (lowestLabel (base .labels) (chainAt rows (now (tables .entry)) start first)) ⌝ }
 {
     let mut arm = first;
     let mut left = rows;
+    let mut least = Found::NOLABEL;
     while 0 < left {
         if arm == 0 {
-            return Found::Nothing;
+            return Found::Nothing(least);
         }
         let part = row_at(tables, start, words::wide(arm));
         if part.kind != Row::ARM {
-            return Found::Nothing;
+            return Found::Nothing(least);
         }
         if words::wide(part.first) == label {
             return Found::At(part.second);
         }
+        least = lower(least, part.first);
         arm = part.third;
         left -= 1;
     }
-    Found::Nothing
+    Found::Nothing(least)
 }
 
 // A Send, a Receive or an End: where a role stands still.

@@ -1,7 +1,9 @@
 -- What the functions that follow a block's rows answer, by the block's first row and its length. Assumes nothing.
-use Prim.Native.Nat.{ℕ, zero, suc, _+_}
-use mathlib.Core.List.{List, []}
+use Prim.Native.Nat.{ℕ, zero, suc, _+_, min}
+use mathlib.Core.Bool.{cond}
+use mathlib.Core.List.{List, [], _∷_}
 use mathlib.Core.Option.{Option, none, some}
+use lib.Dec.{eqb}
 use Rattle.words.specs.Rows.{word}
 use Rattle.blocks.specs.Block.{PartRow, partRowOf}
 use Rattle.blocks.specs.Head.{onward, armThen, ArmAt}
@@ -34,7 +36,12 @@ chainAt zero ts start i = []
 chainAt (suc n) ts start zero = []
 chainAt (suc n) ts start (suc i) = armThen (λ j. chainAt n ts start j) (rowAt ts start (suc i))
 
--- the lookup's answer
-abbrev pub foundOf : Option ℕ → Found
-foundOf none = Nothing
-foundOf (some c) = At c
+-- the lookup's answer, where k is the lowest label of the arms
+abbrev pub foundOf : Option ℕ → ℕ → Found
+foundOf none k = Nothing k
+foundOf (some c) k = At c
+
+-- the lookup in one walk: k is the lowest label so far
+unfoldable pub lookup : ℕ → ℕ → List ArmAt → Found
+lookup l k [] = Nothing k
+lookup l k (a ∷ as′) = cond (eqb l (a .label)) (At (a .continuation)) (lookup l (min k (a .label)) as′)
