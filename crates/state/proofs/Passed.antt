@@ -14,7 +14,7 @@ use Rattle.blocks.specs.Tables.{tablesGood, rowHolds}
 use Rattle.blocks.specs.mirror.Rows.{followAt, chainAt}
 use Rattle.state.specs.State.{State, headOf, held, labelAt, arePair, stateGood}
 use Rattle.state.specs.declared.Turn.{Turn}
-use Rattle.state.specs.declared.Turn.the-variants.{Refused, To}
+use Rattle.state.specs.declared.Turn.the-variants.{Refused, Offered, To}
 use Rattle.state.specs.mirror.Turns.{sendTurn, sendFound, receiveTurn, receiveFound}
 use Rattle.state.specs.mirror.Judged.{judged, sendJudged, receiveJudged}
 use Rattle.blocks.proofs.Mirrored.{arms-at}
@@ -25,6 +25,7 @@ use Rattle.state.proofs.Judging.{Stood, stood-bounds}
 -- a refusal's number is not 0
 pub data Numbered : Turn → Type 0 where
   refused : {n : ℕ} → 0 < n → Numbered (Refused n)
+  offered : {n k : ℕ} → 0 < n → Numbered (Offered n k)
   to : {h : ℕ} → Numbered (To h)
 
 number-cond : (b : Bool) (n : ℕ) (rest : Turn) → 0 < n → Numbered rest → Numbered (cond b (Refused n) rest)
@@ -32,10 +33,10 @@ number-cond true n rest l r = refused l
 number-cond false n rest l r = r
 
 module _ (ts : List ℕ) (start rows : ℕ) where
-  number-sent : (count : ℕ) (o : Option ℕ) → Numbered (sendFound base ts start rows count o)
+  number-sent : (count k : ℕ) (o : Option ℕ) → Numbered (sendFound base ts start rows count k o)
   unfolding sendFound
-  number-sent count none = refused {n = 16} (omega arith)
-  number-sent count (some c) = number-cond (leb 4 count) 17 _ (omega arith) to
+  number-sent count k none = offered {n = 16} (omega arith)
+  number-sent count k (some c) = number-cond (leb 4 count) 17 _ (omega arith) to
 
   pub number-send : (q l count : ℕ) (row : PartRow) → Numbered (sendTurn base ts start rows q l count row)
   unfolding sendTurn
@@ -43,16 +44,16 @@ module _ (ts : List ℕ) (start rows : ℕ) where
   number-send q l count (Arm k c n) = refused {n = 15} (omega arith)
   number-send q l count (Loop b x y) = refused {n = 15} (omega arith)
   number-send q l count (Back j x y) = refused {n = 15} (omega arith)
-  number-send q l count (Send peer f x) = number-cond (not (eqb peer q)) 15 _ (omega arith) (number-sent count _)
+  number-send q l count (Send peer f x) = number-cond (not (eqb peer q)) 15 _ (omega arith) (number-sent count _ _)
   number-send q l count (Receive peer f x) = refused {n = 15} (omega arith)
   number-send q l count Other = refused {n = 15} (omega arith)
 
-  number-received : (o : Option ℕ) → Numbered (receiveFound ts start rows o)
+  number-received : (k : ℕ) (o : Option ℕ) → Numbered (receiveFound ts start rows k o)
   unfolding receiveFound
-  number-received none = refused {n = 19} (omega arith)
-  number-received (some c) = to
+  number-received k none = offered {n = 19} (omega arith)
+  number-received k (some c) = to
 
-  pub number-receive : (p count l : ℕ) (row : PartRow) → Numbered (receiveTurn ts start rows p count l row)
+  pub number-receive : (p count l : ℕ) (row : PartRow) → Numbered (receiveTurn base ts start rows p count l row)
   unfolding receiveTurn
   number-receive p count l (End a b c) = refused {n = 15} (omega arith)
   number-receive p count l (Arm k c n) = refused {n = 15} (omega arith)
@@ -60,7 +61,7 @@ module _ (ts : List ℕ) (start rows : ℕ) where
   number-receive p count l (Back j x y) = refused {n = 15} (omega arith)
   number-receive p count l (Send peer f x) = refused {n = 15} (omega arith)
   number-receive p count l (Receive peer f x) =
-      number-cond (not (eqb peer p)) 15 _ (omega arith) (number-cond (eqb count 0) 18 _ (omega arith) (number-received _))
+      number-cond (not (eqb peer p)) 15 _ (omega arith) (number-cond (eqb count 0) 18 _ (omega arith) (number-received _ _))
   number-receive p count l Other = refused {n = 15} (omega arith)
 
 pub number-judged : (ts : List ℕ) (roles p q : ℕ) (s : State) (rest : Turn) → Numbered rest → Numbered (judged base ts roles p q s rest)
@@ -72,6 +73,9 @@ number-judged ts roles p q s rest r =
 
 refused≢to : {n h : ℕ} → Refused n ≡ To h → ⊥
 refused≢to e = let z : _≡_ {A = ℕ} 0 1 = cc in omega arith
+
+offered≢to : {n k h : ℕ} → Offered n k ≡ To h → ⊥
+offered≢to e = let z : _≡_ {A = ℕ} 0 1 = cc in omega arith
 
 same-to : {h k : ℕ} → To h ≡ To k → h ≡ k
 same-to e = cc
@@ -108,11 +112,11 @@ pub record Received (ts : List ℕ) (start rows p count l h : ℕ) (row : PartRo
   pub lands : h ≡ followAt rows ts start continuation
 
 module _ (ts : List ℕ) (start rows h : ℕ) where
-  found-sent : (q l count f x : ℕ) (o : Option ℕ) → find l (chainAt rows ts start f) ≡ o → sendFound base ts start rows count o ≡ To h
+  found-sent : (q l count f x k : ℕ) (o : Option ℕ) → find l (chainAt rows ts start f) ≡ o → sendFound base ts start rows count k o ≡ To h
       → Sent ts start rows q l count h (Send q f x)
   unfolding sendFound
-  found-sent q l count f x none g e = absurd (refused≢to e)
-  found-sent q l count f x (some c) g e =
+  found-sent q l count f x k none g e = absurd (offered≢to e)
+  found-sent q l count f x k (some c) g e =
       let (a, b) = passes (leb 4 count) 17 (To (followAt rows ts start c)) h e in
       record { first = f; spare = x; continuation = c; is = refl; found = g; room = leb-false 4 count a; lands = sym (same-to b) }
 
@@ -124,18 +128,18 @@ module _ (ts : List ℕ) (start rows h : ℕ) where
   row-sent q l count (Back j x y) e = absurd (refused≢to e)
   row-sent q l count (Send peer f x) e =
       let (a, b) = passes (not (eqb peer q)) 15 _ h e in
-      rw (eqb-true peer q (not-false _ a)) (found-sent q l count f x (find l (chainAt rows ts start f)) refl b)
+      rw (eqb-true peer q (not-false _ a)) (found-sent q l count f x _ (find l (chainAt rows ts start f)) refl b)
   row-sent q l count (Receive peer f x) e = absurd (refused≢to e)
   row-sent q l count Other e = absurd (refused≢to e)
 
-  found-received : (p count l f x : ℕ) (o : Option ℕ) → (count ≡ 0 → ⊥) → find l (chainAt rows ts start f) ≡ o → receiveFound ts start rows o ≡ To h
+  found-received : (p count l f x k : ℕ) (o : Option ℕ) → (count ≡ 0 → ⊥) → find l (chainAt rows ts start f) ≡ o → receiveFound ts start rows k o ≡ To h
       → Received ts start rows p count l h (Receive p f x)
   unfolding receiveFound
-  found-received p count l f x none z g e = absurd (refused≢to e)
-  found-received p count l f x (some c) z g e =
+  found-received p count l f x k none z g e = absurd (offered≢to e)
+  found-received p count l f x k (some c) z g e =
       record { first = f; spare = x; continuation = c; is = refl; found = g; some-held = omega (arith, z); lands = sym (same-to e) }
 
-  row-received : (p count l : ℕ) (row : PartRow) → receiveTurn ts start rows p count l row ≡ To h → Received ts start rows p count l h row
+  row-received : (p count l : ℕ) (row : PartRow) → receiveTurn base ts start rows p count l row ≡ To h → Received ts start rows p count l h row
   unfolding receiveTurn
   row-received p count l (End a b c) e = absurd (refused≢to e)
   row-received p count l (Arm k c n) e = absurd (refused≢to e)
@@ -145,7 +149,7 @@ module _ (ts : List ℕ) (start rows h : ℕ) where
   row-received p count l (Receive peer f x) e =
       let (a, b) = passes (not (eqb peer p)) 15 _ h e in
       let (z, d) = passes (eqb count 0) 18 _ h b in
-      rw (eqb-true peer p (not-false _ a)) (found-received p count l f x (find l (chainAt rows ts start f)) (eqb-false count 0 z) refl d)
+      rw (eqb-true peer p (not-false _ a)) (found-received p count l f x _ (find l (chainAt rows ts start f)) (eqb-false count 0 z) refl d)
   row-received p count l Other e = absurd (refused≢to e)
 
 -- an accepted send: the tables and the state are good, the two are a pair, and the arm is there

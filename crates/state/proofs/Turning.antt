@@ -13,13 +13,14 @@ use Rattle.state.specs.State.{State}
 use Rattle.state.specs.declared.Turn.the-variants.{Refused}
 use Rattle.state.specs.mirror.Turns.{sendTurn, receiveTurn, actsAt}
 
-pub found-nothing : (o : Option ℕ) → foundOf o ≡ Nothing → o ≡ none
-found-nothing none e = refl
-found-nothing (some c) e = absurd (let z : _≡_ {A = ℕ} 0 1 = cc in omega arith)
+-- k is the lowest label of the arms
+pub found-nothing : (o : Option ℕ) (k n : ℕ) → foundOf o k ≡ Nothing n → (o ≡ none) × (n ≡ k)
+found-nothing none k n e = (refl, cc)
+found-nothing (some c) k n e = absurd (let z : _≡_ {A = ℕ} 0 1 = cc in omega arith)
 
-pub found-at : (o : Option ℕ) (c : ℕ) → foundOf o ≡ At c → o ≡ some c
-found-at none c e = absurd (let z : _≡_ {A = ℕ} 0 1 = cc in omega arith)
-found-at (some d) c e = cc
+pub found-at : (o : Option ℕ) (k c : ℕ) → foundOf o k ≡ At c → o ≡ some c
+found-at none k c e = absurd (let z : _≡_ {A = ℕ} 0 1 = cc in omega arith)
+found-at (some d) k c e = cc
 
 -- a head that is no send, no receive, or neither
 module _ (lim : Limits) (ts : List ℕ) (start rows : ℕ) (a b c : ℕ) where
@@ -34,7 +35,7 @@ module _ (lim : Limits) (ts : List ℕ) (start rows : ℕ) (a b c : ℕ) where
   no-send q l count (suc (suc (suc (suc (suc (suc zero)))))) h = refl
   no-send q l count (suc (suc (suc (suc (suc (suc (suc k))))))) h = refl
 
-  pub no-receive : (p count l k : ℕ) → (k ≡ 6 → ⊥) → Refused 15 ≡ receiveTurn ts start rows p count l (partRowOf k a b c)
+  pub no-receive : (p count l k : ℕ) → (k ≡ 6 → ⊥) → Refused 15 ≡ receiveTurn lim ts start rows p count l (partRowOf k a b c)
   unfolding receiveTurn
   no-receive p count l zero h = refl
   no-receive p count l (suc zero) h = refl

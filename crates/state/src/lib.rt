@@ -6,9 +6,11 @@ mod turns;
 ghost use mathlib.Core.Path.{_≡_};
 ghost use Prim.Native.Nat.{_<_};
 
-// A call is refused with a number, or the role that made it moves to that row.
+// A call is refused with a number, or for its label with a number and the lowest label that the head offers, or the role that made it moves to
+// that row.
 pub enum Turn {
     Refused(u8),
+    Offered(u8, u16),
     To(u16),
 }
 

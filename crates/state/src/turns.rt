@@ -36,7 +36,7 @@ fn send_arm(
     }
     let found = rows::find_arm(tables, start, rows, part.second, label);
     match found {
-        Found::Nothing => Turn::Refused(Turn::LABEL),
+        Found::Nothing(least) => Turn::Offered(Turn::LABEL, least),
         Found::At(then) => {
             if DEPTH <= wide(count) {
                 return Turn::Refused(Turn::FULL);
@@ -75,7 +75,7 @@ fn receive_arm(
     count: u8,
     label: u8,
 ) -> Turn
-    ensures { λ r. ⌜ r ≡ receiveTurn (now (tables .entry)) start rows sender count label (Receive (part .first) (part .second) (part .third)) ⌝ }
+    ensures { λ r. ⌜ r ≡ receiveTurn base (now (tables .entry)) start rows sender count label (Receive (part .first) (part .second) (part .third)) ⌝ }
 {
     if words::wide(part.first) != sender {
         return Turn::Refused(Turn::TURN);
@@ -85,7 +85,7 @@ fn receive_arm(
     }
     let found = rows::find_arm(tables, start, rows, part.second, wide(label));
     match found {
-        Found::Nothing => Turn::Refused(Turn::STRAY),
+        Found::Nothing(least) => Turn::Offered(Turn::STRAY, least),
         Found::At(then) => Turn::To(rows::head(tables, start, rows, then)),
     }
 }
@@ -100,7 +100,7 @@ pub fn receive_turn(
     count: u8,
     label: u8,
 ) -> Turn
-    ensures { λ r. ⌜ r ≡ receiveTurn (now (tables .entry)) start rows sender count label (said part) ⌝ }
+    ensures { λ r. ⌜ r ≡ receiveTurn base (now (tables .entry)) start rows sender count label (said part) ⌝ }
 {
     let kind = part.kind;
     match kind {
@@ -115,7 +115,7 @@ fn has_arm(tables: &[u16], start: usize, rows: usize, first: u16, label: usize) 
 {
     let found = rows::find_arm(tables, start, rows, first, label);
     match found {
-        Found::Nothing => false,
+        Found::Nothing(_) => false,
         Found::At(_) => true,
     }
 }

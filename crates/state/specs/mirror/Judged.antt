@@ -42,7 +42,7 @@ abbrev pub sendFrom : Limits → List ℕ → ℕ → ℕ → ℕ → ℕ → St
 sendFrom lim ts rows p q l s i = sendTurn lim ts (p * rows) rows q l (held lim s p q) (rowAt ts (p * rows) i)
 
 abbrev pub receiveFrom : Limits → List ℕ → ℕ → ℕ → ℕ → State → ℕ → Turn
-receiveFrom lim ts rows p q s i = receiveTurn ts (q * rows) rows p (held lim s p q) (labelAt lim s p q 0) (rowAt ts (q * rows) i)
+receiveFrom lim ts rows p q s i = receiveTurn lim ts (q * rows) rows p (held lim s p q) (labelAt lim s p q 0) (rowAt ts (q * rows) i)
 
 unfoldable pub sendJudged : Limits → List ℕ → ℕ → ℕ → ℕ → ℕ → State → Turn
 sendJudged lim ts roles p q l s = judged lim ts roles p q s (sendFrom lim ts (blockRows ts roles) p q l s (headOf s p))

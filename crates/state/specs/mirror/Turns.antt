@@ -7,18 +7,19 @@ use mathlib.Core.Path.{_≡_}
 use lib.Dec.{ltb, leb, eqb}
 use Rattle.table.specs.Limits.{Limits}
 use Rattle.blocks.specs.Block.{PartRow, End, Arm, Loop, Back, Send, Receive, Other}
-use Rattle.blocks.specs.Head.{find}
+use Rattle.blocks.specs.Head.{find, lowestLabel}
 use Rattle.blocks.specs.declared.rows.Row.{Row}
 use Rattle.blocks.specs.mirror.Rows.{followAt, chainAt}
 use Rattle.state.specs.Numbers.{TURN, LABEL, FULL, EMPTY, STRAY}
 use Rattle.state.specs.State.{State, held, labelAt}
 use Rattle.state.specs.Awaited.{isFound}
 use Rattle.state.specs.declared.Turn.{Turn}
-use Rattle.state.specs.declared.Turn.the-variants.{Refused, To}
+use Rattle.state.specs.declared.Turn.the-variants.{Refused, Offered, To}
 
-unfoldable pub sendFound : Limits → List ℕ → ℕ → ℕ → ℕ → Option ℕ → Turn
-sendFound lim ts start rows count none = Refused LABEL
-sendFound lim ts start rows count (some c) = cond (leb (lim .depth) count) (Refused FULL) (To (followAt rows ts start c))
+-- k is the lowest label that the head offers
+unfoldable pub sendFound : Limits → List ℕ → ℕ → ℕ → ℕ → ℕ → Option ℕ → Turn
+sendFound lim ts start rows count k none = Offered LABEL k
+sendFound lim ts start rows count k (some c) = cond (leb (lim .depth) count) (Refused FULL) (To (followAt rows ts start c))
 
 unfoldable pub sendTurn : Limits → List ℕ → ℕ → ℕ → ℕ → ℕ → ℕ → PartRow → Turn
 sendTurn lim ts start rows q l count (End a b c) = Refused TURN
@@ -26,24 +27,26 @@ sendTurn lim ts start rows q l count (Arm k c n) = Refused TURN
 sendTurn lim ts start rows q l count (Loop b x y) = Refused TURN
 sendTurn lim ts start rows q l count (Back j x y) = Refused TURN
 sendTurn lim ts start rows q l count (Send peer f x) =
-    cond (not (eqb peer q)) (Refused TURN) (sendFound lim ts start rows count (find l (chainAt rows ts start f)))
+    let arms = chainAt rows ts start f in
+    cond (not (eqb peer q)) (Refused TURN) (sendFound lim ts start rows count (lowestLabel (lim .labels) arms) (find l arms))
 sendTurn lim ts start rows q l count (Receive peer f x) = Refused TURN
 sendTurn lim ts start rows q l count Other = Refused TURN
 
-unfoldable pub receiveFound : List ℕ → ℕ → ℕ → Option ℕ → Turn
-receiveFound ts start rows none = Refused STRAY
-receiveFound ts start rows (some c) = To (followAt rows ts start c)
+unfoldable pub receiveFound : List ℕ → ℕ → ℕ → ℕ → Option ℕ → Turn
+receiveFound ts start rows k none = Offered STRAY k
+receiveFound ts start rows k (some c) = To (followAt rows ts start c)
 
-unfoldable pub receiveTurn : List ℕ → ℕ → ℕ → ℕ → ℕ → ℕ → PartRow → Turn
-receiveTurn ts start rows p count l (End a b c) = Refused TURN
-receiveTurn ts start rows p count l (Arm k c n) = Refused TURN
-receiveTurn ts start rows p count l (Loop b x y) = Refused TURN
-receiveTurn ts start rows p count l (Back j x y) = Refused TURN
-receiveTurn ts start rows p count l (Send peer f x) = Refused TURN
-receiveTurn ts start rows p count l (Receive peer f x) =
+unfoldable pub receiveTurn : Limits → List ℕ → ℕ → ℕ → ℕ → ℕ → ℕ → PartRow → Turn
+receiveTurn lim ts start rows p count l (End a b c) = Refused TURN
+receiveTurn lim ts start rows p count l (Arm k c n) = Refused TURN
+receiveTurn lim ts start rows p count l (Loop b x y) = Refused TURN
+receiveTurn lim ts start rows p count l (Back j x y) = Refused TURN
+receiveTurn lim ts start rows p count l (Send peer f x) = Refused TURN
+receiveTurn lim ts start rows p count l (Receive peer f x) =
+    let arms = chainAt rows ts start f in
     cond (not (eqb peer p)) (Refused TURN)
-    (cond (eqb count 0) (Refused EMPTY) (receiveFound ts start rows (find l (chainAt rows ts start f))))
-receiveTurn ts start rows p count l Other = Refused TURN
+    (cond (eqb count 0) (Refused EMPTY) (receiveFound ts start rows (lowestLabel (lim .labels) arms) (find l arms)))
+receiveTurn lim ts start rows p count l Other = Refused TURN
 
 unfoldable pub actsAt : Limits → List ℕ → ℕ → ℕ → State → ℕ → PartRow → Bool
 actsAt lim ts start rows s r (End a b c) = false

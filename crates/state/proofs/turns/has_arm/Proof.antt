@@ -19,12 +19,12 @@ enum-told-2 c = search needs
 returns : tie.Need-returns
 returns c =
     let o = find (c .before .before .before .before .args .label) (chainAt (c .before .before .before .before .args .rows) (c .before .before .before .before .args .tables .now) (c .before .before .before .before .args .start) (c .before .before .before .before .args .first)) in
-    rw (found-nothing o (sym (c .before .before .find-arm .ensures) ∙ c .enum-told .given .1))
+    rw (found-nothing o _ _ (sym (c .before .before .find-arm .ensures) ∙ c .enum-told .given .1) .0)
 
 returns-2 : tie.Need-returns-2
 returns-2 c =
     let o = find (c .before .before .before .before .args .label) (chainAt (c .before .before .before .before .args .rows) (c .before .before .before .before .args .tables .now) (c .before .before .before .before .args .start) (c .before .before .before .before .args .first)) in
-    rw (found-at o _ (sym (c .before .before .find-arm .ensures) ∙ c .enum-told2 .given .1))
+    rw (found-at o _ _ (sym (c .before .before .find-arm .ensures) ∙ c .enum-told2 .given .1))
 
 pub has-arm-spec : {M : Type 1} → statement M
 has-arm-spec = tie.close (tie.spec find-arm-requires enum-told enum-told-2 returns returns-2)

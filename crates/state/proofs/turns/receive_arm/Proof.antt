@@ -27,11 +27,11 @@ wide-requires-2 c κs = search needs
 find-arm-requires : tie.Need-find-arm-requires
 find-arm-requires c κs = search needs
 
-enum-told : tie.Need-enum-told
-enum-told c = search needs
-
 enum-known-found : tie.Need-enum-known-found
 enum-known-found c = search needs
+
+enum-known-found-2 : tie.Need-enum-known-found-2
+enum-known-found-2 c = search needs
 
 head-requires : tie.Need-head-requires
 head-requires c κs = search needs
@@ -39,13 +39,15 @@ head-requires c κs = search needs
 returns-3 : tie.Need-returns-3
 unfolding receiveTurn receiveFound
 returns-3 c =
-    let a = c .before .before .before .before .before .before .before .before .args in
-    let o = find (c .before .before .before .wide2 .result) (chainAt (a .rows) (a .tables .now) (a .start) (a .part .second)) in
+    let a = c .before .before .before .before .before .before .before .before .before .args in
+    let o = find (c .before .before .before .before .wide2 .result) (chainAt (a .rows) (a .tables .now) (a .start) (a .part .second)) in
+    let (none, least) = found-nothing o _ _ (sym (c .before .before .before .find-arm .ensures) ∙ c .before .found .given .1) in
     rw (
-      eq-eqb _ _ (sym (c .before .before .before .before .before .before .wide .ensures .0) ∙ c .before .before .before .before .before .if1 .left),
-      ne-eqb _ _ (c .before .before .before .before .if2 .left),
-      ← (c .before .before .before .wide2 .ensures .0),
-      found-nothing o (sym (c .before .before .find-arm .ensures) ∙ c .enum-told .given .1),
+      eq-eqb _ _ (sym (c .before .before .before .before .before .before .before .wide .ensures .0) ∙ c .before .before .before .before .before .before .if1 .left),
+      ne-eqb _ _ (c .before .before .before .before .before .if2 .left),
+      ← (c .before .before .before .before .wide2 .ensures .0),
+      none,
+      least,
     )
 
 returns-4 : tie.Need-returns-4
@@ -57,7 +59,7 @@ returns-4 c =
       eq-eqb _ _ (sym (c .before .before .before .before .before .before .before .before .wide .ensures .0) ∙ c .before .before .before .before .before .before .before .if1 .left),
       ne-eqb _ _ (c .before .before .before .before .before .before .if2 .left),
       ← (c .before .before .before .before .before .wide2 .ensures .0),
-      found-at o _ (sym (c .before .before .before .before .find-arm .ensures) ∙ c .before .before .found .given .1),
+      found-at o _ _ (sym (c .before .before .before .before .find-arm .ensures) ∙ c .before .before .found2 .given .1),
       c .head .ensures,
     )
 
@@ -70,8 +72,8 @@ receive-arm-spec =
     returns-2
     wide-requires-2
     find-arm-requires
-    enum-told
     enum-known-found
+    enum-known-found-2
     head-requires
     returns-3
     returns-4)

@@ -20,11 +20,11 @@ returns c = rw (ne-eqb _ _ (λ e. c .if1 .taken (c .before .wide .ensures .0 ∙
 find-arm-requires : tie.Need-find-arm-requires
 find-arm-requires c κs = search needs
 
-enum-told : tie.Need-enum-told
-enum-told c = search needs
-
 enum-known-found : tie.Need-enum-known-found
 enum-known-found c = search needs
+
+enum-known-found-2 : tie.Need-enum-known-found-2
+enum-known-found-2 c = search needs
 
 wide-requires-2 : tie.Need-wide-requires-2
 wide-requires-2 c κs = search needs
@@ -36,7 +36,7 @@ returns-2 c =
     let o = find (a .label) (chainAt (a .rows) (a .tables .now) (a .start) (a .part .second)) in
     rw (
       eq-eqb _ _ (sym (c .before .before .before .before .before .before .before .wide .ensures .0) ∙ c .before .before .before .before .before .before .if1 .left),
-      found-at o _ (sym (c .before .before .before .before .before .find-arm .ensures) ∙ c .before .before .before .found .given .1),
+      found-at o _ _ (sym (c .before .before .before .before .before .find-arm .ensures) ∙ c .before .before .before .found2 .given .1),
       ← (c .before .wide2 .ensures .0),
       le-leb _ _ (c .if2 .taken),
     )
@@ -47,9 +47,10 @@ head-requires c κs = search needs
 returns-3 : tie.Need-returns-3
 unfolding sendTurn sendFound
 returns-3 c =
-    let a = c .before .before .before .before .before .before .args in
+    let a = c .before .before .before .before .before .before .before .args in
     let o = find (a .label) (chainAt (a .rows) (a .tables .now) (a .start) (a .part .second)) in
-    rw (eq-eqb _ _ (sym (c .before .before .before .before .wide .ensures .0) ∙ c .before .before .before .if1 .left), found-nothing o (sym (c .before .before .find-arm .ensures) ∙ c .enum-told .given .1))
+    let (none, least) = found-nothing o _ _ (sym (c .before .before .before .find-arm .ensures) ∙ c .before .found .given .1) in
+    rw (eq-eqb _ _ (sym (c .before .before .before .before .before .wide .ensures .0) ∙ c .before .before .before .before .if1 .left), none, least)
 
 returns-4 : tie.Need-returns-4
 unfolding sendTurn sendFound
@@ -58,7 +59,7 @@ returns-4 c =
     let o = find (a .label) (chainAt (a .rows) (a .tables .now) (a .start) (a .part .second)) in
     rw (
       eq-eqb _ _ (sym (c .before .before .before .before .before .before .before .before .wide .ensures .0) ∙ c .before .before .before .before .before .before .before .if1 .left),
-      found-at o _ (sym (c .before .before .before .before .before .before .find-arm .ensures) ∙ c .before .before .before .before .found .given .1),
+      found-at o _ _ (sym (c .before .before .before .before .before .before .find-arm .ensures) ∙ c .before .before .before .before .found2 .given .1),
       ← (c .before .before .wide2 .ensures .0),
       lt-leb _ _ (c .before .if2 .left),
       c .head .ensures,
@@ -71,8 +72,8 @@ send-arm-spec =
     wide-requires
     returns
     find-arm-requires
-    enum-told
     enum-known-found
+    enum-known-found-2
     wide-requires-2
     returns-2
     head-requires
