@@ -1,4 +1,5 @@
 pub mod Walk
+pub mod Lowest
 pub mod RowTests
 pub mod Mirrored
 pub mod Far
