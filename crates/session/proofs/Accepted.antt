@@ -25,7 +25,7 @@ use Rattle.blocks.proofs.Good.{both, sized-bounds}
 use Rattle.blocks.proofs.Mirrored.{arms-at}
 use Rattle.blocks.proofs.Sound.{good-sized, row-holds, send-peer, receive-peer}
 use Rattle.state.proofs.Sound.{head-stands}
-use Rattle.state.proofs.Passed.{Numbered, refused, to, number-send, number-receive, number-judged, SendTo, send-to, ReceiveTo, receive-to}
+use Rattle.state.proofs.Passed.{Numbered, refused, offered, to, number-send, number-receive, number-judged, SendTo, send-to, ReceiveTo, receive-to}
 use Rattle.session.proofs.Calling.{afterSend, after-send, afterReceive, after-receive}
 
 -- ---- accepted means that no test refused
@@ -43,6 +43,8 @@ module _ (ts : List ℕ) (roles p q : ℕ) (s : Session) where
           → (h : ℕ) × SendTo ts roles p q l h (listed s) × (sendOf base ts roles p q l v s ≡ afterSend ts roles p q s l v (To h))
       which t f (refused {n = n} m) =
           absurd (let z : n ≡ 0 = ap (λ (a : Answer). a .number) (ap (afterSend ts roles p q s l v) (sym f) ∙ after-send ts roles p q s l v) ∙ e in omega arith)
+      which t f (offered {n = n} m) =
+          absurd (let z : n ≡ 0 = ap (λ (a : Answer). a .number) (ap (afterSend ts roles p q s l v) (sym f) ∙ after-send ts roles p q s l v) ∙ e in omega arith)
       which t f (to {h = h}) = (h, send-to ts roles p q (listed s) h l f, sym (after-send ts roles p q s l v) ∙ ap (afterSend ts roles p q s l v) f)
 
   pub receive-accepted : receiveOf base ts roles p q s .number ≡ 0
@@ -55,6 +57,8 @@ module _ (ts : List ℕ) (roles p q : ℕ) (s : Session) where
       which : (t : Turn) → receiveJudged base ts roles p q (listed s) ≡ t → Numbered t
           → (h : ℕ) × ReceiveTo ts roles p q h (listed s) × (receiveOf base ts roles p q s ≡ afterReceive ts roles p q s (To h))
       which t f (refused {n = n} m) =
+          absurd (let z : n ≡ 0 = ap (λ (a : Answer). a .number) (ap (afterReceive ts roles p q s) (sym f) ∙ after-receive ts roles p q s) ∙ e in omega arith)
+      which t f (offered {n = n} m) =
           absurd (let z : n ≡ 0 = ap (λ (a : Answer). a .number) (ap (afterReceive ts roles p q s) (sym f) ∙ after-receive ts roles p q s) ∙ e in omega arith)
       which t f (to {h = h}) = (h, receive-to ts roles p q (listed s) h f, sym (after-receive ts roles p q s) ∙ ap (afterReceive ts roles p q s) f)
 
@@ -88,17 +92,17 @@ is-found (some c) e = (c, refl)
 pair-of : (roles p q : ℕ) → p < roles → q < roles → (p ≡ q → ⊥) → arePair roles p q ≡ true
 pair-of roles p q a b n = rw (lt-ltb p roles a, lt-ltb q roles b, ne-eqb p q n)
 
-module _ (ts : List ℕ) (roles : ℕ) (s : Session) (good : tablesGood base ts roles ≡ true) (standing : stateGood base ts roles s ≡ true) where
+module _ (ts : List ℕ) (roles : ℕ) (s : Session) (good : tablesGood base ts roles ≡ true) (judged : stateGood base ts roles s ≡ true) where
   send-goes : (p q l v f x c : ℕ) → arePair roles p q ≡ true → partRow ts roles p (headOf s p) ≡ Send q f x → find l (armsOf ts roles p f) ≡ some c
       → held base s p q < 4 → sendOf base ts roles p q l v s .number ≡ 0
   unfolding sendOf sendAt sendArm
-  send-goes p q l v f x c two row found room = rw (good, standing, two, row, eq-eqb q q refl, found, lt-leb 4 (held base s p q) room)
+  send-goes p q l v f x c two row found room = rw (good, judged, two, row, eq-eqb q q refl, found, lt-leb 4 (held base s p q) room)
 
   receive-goes : (p q f x c : ℕ) → arePair roles p q ≡ true → partRow ts roles q (headOf s q) ≡ Receive p f x → find (labelAt base s p q 0) (armsOf ts roles q f) ≡ some c
       → 0 < held base s p q → receiveOf base ts roles p q s .number ≡ 0
   unfolding receiveOf receiveAt receiveArm
   receive-goes p q f x c two row found some-held =
-      rw (good, standing, two, row, eq-eqb p p refl, ne-eqb (held base s p q) 0 (omega arith), found)
+      rw (good, judged, two, row, eq-eqb p p refl, ne-eqb (held base s p q) 0 (omega arith), found)
 
   module _ (r : ℕ) (present : r < roles) where
     -- by the head's row
@@ -130,7 +134,7 @@ module _ (ts : List ℕ) (roles : ℕ) (s : Session) (good : tablesGood base ts 
     pub awaited-acts : isAwaited base ts roles s r ≡ true → HasCall ts roles s r
     awaited-acts t =
         let b = sized-bounds ts roles (blockRows ts roles) (good-sized ts roles good) in
-        let hs = head-stands ts roles (listed s) standing r present (omega (arith, b .1)) in
+        let hs = head-stands ts roles (listed s) judged r present (omega (arith, b .1)) in
         row-acts (partRow ts roles r (headOf s r)) refl (row-holds ts roles good r present (headOf s r) (hs .0)) t
 
 -- and a role that has one is awaited
@@ -147,4 +151,4 @@ acts-awaited ts roles s r (receives p e) =
 pub awaited-is : (ts : List ℕ) (roles : ℕ) (s : Session) → tablesGood base ts roles ≡ true → stateGood base ts roles s ≡ true
     → awaitedOf base ts roles s ≡ roleSet 0 (isAwaited base ts roles s) roles 8 s
 unfolding awaitedOf
-awaited-is ts roles s good standing = rw (good, standing)
+awaited-is ts roles s good judged = rw (good, judged)

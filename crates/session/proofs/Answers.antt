@@ -36,7 +36,7 @@ module _ (ts : List ℕ) (roles rows : ℕ) (found : rows ≡ goodRows base ts r
 
   module _ {hs : List ℕ} (heads : hs ≡ headsFrom ts roles rows 8) where
     abbrev made : ℕ → Answer
-    made n = answers n (record { heads = hs; counts = nothing base .counts; labels = nothing base .labels; payloads = nothing base .payloads })
+    made n = answers base n (record { heads = hs; counts = nothing base .counts; labels = nothing base .labels; payloads = nothing base .payloads })
 
     pub fresh-refused : rows ≡ 0 → made 12 ≡ freshOf base ts roles
     unfolding freshOf

@@ -7,34 +7,35 @@ use mathlib.Core.Path.{_≡_, refl, _∙_, ap}
 use lib.Dec.{eqb, leb}
 use Rattle.table.specs.Limits.{base}
 use Rattle.blocks.specs.Block.{PartRow, End, Arm, Loop, Back, Send, Receive, Other, partRow, blockRows}
-use Rattle.blocks.specs.Head.{find}
+use Rattle.blocks.specs.Head.{find, lowestLabel}
 use Rattle.blocks.specs.Tables.{tablesGood}
 use Rattle.blocks.specs.mirror.Rows.{followAt, chainAt}
 use Rattle.state.specs.State.{arePair}
 use Rattle.state.specs.declared.Turn.{Turn}
-use Rattle.state.specs.declared.Turn.the-variants.{Refused, To}
+use Rattle.state.specs.declared.Turn.the-variants.{Refused, Offered, To}
 use Rattle.state.specs.mirror.Turns.{sendTurn, sendFound, receiveTurn, receiveFound}
 use Rattle.state.specs.mirror.Judged.{sendJudged, receiveJudged}
 use Rattle.session.specs.State.{listed, headOf, held, labelAt, stateGood, moved, pushed}
-use Rattle.session.specs.Calls.{answers, received, refusedIf, sendArm, sendAt, sendOf, receiveArm, receiveAt, receiveOf}
+use Rattle.session.specs.Calls.{offering, answers, received, refusedIf, sendArm, sendAt, sendOf, receiveArm, receiveAt, receiveOf}
 use Rattle.session.specs.declared.Session.{Session}
 use Rattle.session.specs.declared.Answer.{Answer}
 use Rattle.blocks.proofs.Mirrored.{arms-at, head-at}
 
 module _ (ts : List ℕ) (roles p q : ℕ) (s : Session) where
   abbrev pub afterSend : ℕ → ℕ → Turn → Answer
-  afterSend l v (Refused n) = answers n s
-  afterSend l v (To h) = answers 0 (moved (pushed base s p q l v) p h)
+  afterSend l v (Refused n) = answers base n s
+  afterSend l v (Offered n k) = offering n k s
+  afterSend l v (To h) = answers base 0 (moved (pushed base s p q l v) p h)
 
-  send-refused : (l v n : ℕ) (b : Bool) (rest : Turn) → afterSend l v (cond b (Refused n) rest) ≡ refusedIf n b s (afterSend l v rest)
+  send-refused : (l v n : ℕ) (b : Bool) (rest : Turn) → afterSend l v (cond b (Refused n) rest) ≡ refusedIf base n b s (afterSend l v rest)
   send-refused l v n true rest = refl
   send-refused l v n false rest = refl
 
-  send-arm : (l v : ℕ) (o : Option ℕ)
-      → afterSend l v (sendFound base ts (p * blockRows ts roles) (blockRows ts roles) (held base s p q) o) ≡ sendArm base ts roles p q l v s o
+  send-arm : (l v k : ℕ) (o : Option ℕ)
+      → afterSend l v (sendFound base ts (p * blockRows ts roles) (blockRows ts roles) (held base s p q) k o) ≡ sendArm base ts roles p q l v s k o
   unfolding sendFound sendArm
-  send-arm l v none = refl
-  send-arm l v (some c) =
+  send-arm l v k none = refl
+  send-arm l v k (some c) =
       send-refused l v 17 (leb 4 (held base s p q)) (To (followAt (blockRows ts roles) ts (p * blockRows ts roles) c)) ∙ rw (head-at ts roles p c)
 
   send-row : (l v : ℕ) (row : PartRow)
@@ -45,9 +46,9 @@ module _ (ts : List ℕ) (roles p q : ℕ) (s : Session) where
   send-row l v (Loop b x y) = refl
   send-row l v (Back j x y) = refl
   send-row l v (Send peer f x) =
+      let arms = chainAt (blockRows ts roles) ts (p * blockRows ts roles) f in
       rw (arms-at ts roles p f)
-      (send-refused l v 15 (not (eqb peer q)) (sendFound base ts (p * blockRows ts roles) (blockRows ts roles) (held base s p q) (find l (chainAt (blockRows ts roles) ts (p * blockRows ts roles) f)))
-      ∙ ap (refusedIf 15 (not (eqb peer q)) s) (send-arm l v (find l (chainAt (blockRows ts roles) ts (p * blockRows ts roles) f))))
+      (send-refused l v 15 (not (eqb peer q)) _ ∙ ap (refusedIf base 15 (not (eqb peer q)) s) (send-arm l v (lowestLabel 64 arms) (find l arms)))
   send-row l v (Receive peer f x) = refl
   send-row l v Other = refl
 
@@ -56,28 +57,29 @@ module _ (ts : List ℕ) (roles p q : ℕ) (s : Session) where
   after-send l v =
       let rest = sendTurn base ts (p * blockRows ts roles) (blockRows ts roles) q l (held base s p q) (partRow ts roles p (headOf s p)) in
       send-refused l v 12 (not (tablesGood base ts roles)) _
-      ∙ ap (refusedIf 12 (not (tablesGood base ts roles)) s)
+      ∙ ap (refusedIf base 12 (not (tablesGood base ts roles)) s)
       (send-refused l v 13 (not (stateGood base ts roles s)) _
-      ∙ ap (refusedIf 13 (not (stateGood base ts roles s)) s)
+      ∙ ap (refusedIf base 13 (not (stateGood base ts roles s)) s)
       (send-refused l v 14 (not (arePair roles p q)) rest
-      ∙ ap (refusedIf 14 (not (arePair roles p q)) s) (send-row l v (partRow ts roles p (headOf s p)))))
+      ∙ ap (refusedIf base 14 (not (arePair roles p q)) s) (send-row l v (partRow ts roles p (headOf s p)))))
 
   abbrev pub afterReceive : Turn → Answer
-  afterReceive (Refused n) = answers n s
+  afterReceive (Refused n) = answers base n s
+  afterReceive (Offered n k) = offering n k s
   afterReceive (To h) = received base s p q h
 
-  receive-refused : (n : ℕ) (b : Bool) (rest : Turn) → afterReceive (cond b (Refused n) rest) ≡ refusedIf n b s (afterReceive rest)
+  receive-refused : (n : ℕ) (b : Bool) (rest : Turn) → afterReceive (cond b (Refused n) rest) ≡ refusedIf base n b s (afterReceive rest)
   receive-refused n true rest = refl
   receive-refused n false rest = refl
 
-  receive-arm : (o : Option ℕ)
-      → afterReceive (receiveFound ts (q * blockRows ts roles) (blockRows ts roles) o) ≡ receiveArm base ts roles p q s o
+  receive-arm : (k : ℕ) (o : Option ℕ)
+      → afterReceive (receiveFound ts (q * blockRows ts roles) (blockRows ts roles) k o) ≡ receiveArm base ts roles p q s k o
   unfolding receiveFound receiveArm
-  receive-arm none = refl
-  receive-arm (some c) = rw (head-at ts roles q c)
+  receive-arm k none = refl
+  receive-arm k (some c) = rw (head-at ts roles q c)
 
   receive-row : (row : PartRow)
-      → afterReceive (receiveTurn ts (q * blockRows ts roles) (blockRows ts roles) p (held base s p q) (labelAt base s p q 0) row) ≡ receiveAt base ts roles p q s row
+      → afterReceive (receiveTurn base ts (q * blockRows ts roles) (blockRows ts roles) p (held base s p q) (labelAt base s p q 0) row) ≡ receiveAt base ts roles p q s row
   unfolding receiveTurn receiveAt
   receive-row (End a b c) = refl
   receive-row (Arm k c n) = refl
@@ -85,20 +87,20 @@ module _ (ts : List ℕ) (roles p q : ℕ) (s : Session) where
   receive-row (Back j x y) = refl
   receive-row (Send peer f x) = refl
   receive-row (Receive peer f x) =
-      let o = find (labelAt base s p q 0) (chainAt (blockRows ts roles) ts (q * blockRows ts roles) f) in
+      let arms = chainAt (blockRows ts roles) ts (q * blockRows ts roles) f in
       rw (arms-at ts roles q f)
       (receive-refused 15 (not (eqb peer p)) _
-      ∙ ap (refusedIf 15 (not (eqb peer p)) s)
-      (receive-refused 18 (eqb (held base s p q) 0) _ ∙ ap (refusedIf 18 (eqb (held base s p q) 0) s) (receive-arm o)))
+      ∙ ap (refusedIf base 15 (not (eqb peer p)) s)
+      (receive-refused 18 (eqb (held base s p q) 0) _ ∙ ap (refusedIf base 18 (eqb (held base s p q) 0) s) (receive-arm (lowestLabel 64 arms) (find (labelAt base s p q 0) arms))))
   receive-row Other = refl
 
   pub after-receive : afterReceive (receiveJudged base ts roles p q (listed s)) ≡ receiveOf base ts roles p q s
   unfolding receiveJudged receiveOf
   after-receive =
-      let rest = receiveTurn ts (q * blockRows ts roles) (blockRows ts roles) p (held base s p q) (labelAt base s p q 0) (partRow ts roles q (headOf s q)) in
+      let rest = receiveTurn base ts (q * blockRows ts roles) (blockRows ts roles) p (held base s p q) (labelAt base s p q 0) (partRow ts roles q (headOf s q)) in
       receive-refused 12 (not (tablesGood base ts roles)) _
-      ∙ ap (refusedIf 12 (not (tablesGood base ts roles)) s)
+      ∙ ap (refusedIf base 12 (not (tablesGood base ts roles)) s)
       (receive-refused 13 (not (stateGood base ts roles s)) _
-      ∙ ap (refusedIf 13 (not (stateGood base ts roles s)) s)
+      ∙ ap (refusedIf base 13 (not (stateGood base ts roles s)) s)
       (receive-refused 14 (not (arePair roles p q)) rest
-      ∙ ap (refusedIf 14 (not (arePair roles p q)) s) (receive-row (partRow ts roles q (headOf s q)))))
+      ∙ ap (refusedIf base 14 (not (arePair roles p q)) s) (receive-row (partRow ts roles q (headOf s q)))))

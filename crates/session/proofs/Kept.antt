@@ -18,7 +18,7 @@ use Rattle.blocks.specs.Head.{head}
 use Rattle.blocks.specs.Tables.{tablesGood, rowHolds}
 use Rattle.state.specs.State.{arePair, headGood, slotGood, queueGood}
 use Rattle.state.specs.declared.Turn.{Turn}
-use Rattle.state.specs.declared.Turn.the-variants.{Refused, To}
+use Rattle.state.specs.declared.Turn.the-variants.{Refused, Offered, To}
 use Rattle.state.specs.mirror.Judged.{sendJudged, receiveJudged}
 use Rattle.session.specs.State.{listed, held, labelAt, payloadAt, nothing, stateGood, moved, pushed, taken, forward}
 use Rattle.session.specs.declared.Session.{Session}
@@ -345,8 +345,8 @@ fresh-keeps ts roles e = decide (tablesGood base ts roles) refl e
         (λ m. let at : getD (firstHeads ts roles 8) r 0 ≡ 0 = first-at ts roles 8 r l ∙ rw (le-ltb r roles m) in rw (le-ltb r roles m, at))
         (lt-or-le r roles)
 
-    decide : (t : Bool) → tablesGood base ts roles ≡ t → (refusedIf 12 (not t) (nothing base) (answers 0 (record { heads = firstHeads ts roles 8; counts = nothing base .counts; labels = nothing base .labels; payloads = nothing base .payloads }))) .number ≡ 0
-        → stateGood base ts roles ((refusedIf 12 (not t) (nothing base) (answers 0 (record { heads = firstHeads ts roles 8; counts = nothing base .counts; labels = nothing base .labels; payloads = nothing base .payloads }))) .state) ≡ true
+    decide : (t : Bool) → tablesGood base ts roles ≡ t → (refusedIf base 12 (not t) (nothing base) (answers base 0 (record { heads = firstHeads ts roles 8; counts = nothing base .counts; labels = nothing base .labels; payloads = nothing base .payloads }))) .number ≡ 0
+        → stateGood base ts roles ((refusedIf base 12 (not t) (nothing base) (answers base 0 (record { heads = firstHeads ts roles 8; counts = nothing base .counts; labels = nothing base .labels; payloads = nothing base .payloads }))) .state) ≡ true
     decide true good z =
         state-from ts roles (record { heads = firstHeads ts roles 8; counts = nothing base .counts; labels = nothing base .labels; payloads = nothing base .payloads })
         (λ r l. heads-good good r l)
@@ -364,6 +364,7 @@ fresh-keeps ts roles e = decide (tablesGood base ts roles) refl e
 module _ (ts : List ℕ) (roles p q : ℕ) (s : Session) (shaped : Shaped s) where
   shaped-send : (l v : ℕ) (t : Turn) → Shaped (afterSend ts roles p q s l v t .state)
   shaped-send l v (Refused n) = shaped
+  shaped-send l v (Offered n k) = shaped
   shaped-send l v (To h) = record {
     heads-are = simp length-set (shaped .heads-are);
     counts-are = simp length-set (shaped .counts-are);
@@ -376,6 +377,7 @@ module _ (ts : List ℕ) (roles p q : ℕ) (s : Session) (shaped : Shaped s) whe
 
   shaped-receive : (t : Turn) → Shaped (afterReceive ts roles p q s t .state)
   shaped-receive (Refused n) = shaped
+  shaped-receive (Offered n k) = shaped
   shaped-receive (To h) = record {
     heads-are = simp length-set (shaped .heads-are);
     counts-are = simp length-set (shaped .counts-are);
@@ -390,6 +392,6 @@ pub fresh-shaped : (ts : List ℕ) (roles : ℕ) → Shaped (freshOf base ts rol
 unfolding freshOf
 fresh-shaped ts roles = decide (tablesGood base ts roles)
   where
-    decide : (t : Bool) → Shaped ((refusedIf 12 (not t) (nothing base) (answers 0 (record { heads = firstHeads ts roles 8; counts = nothing base .counts; labels = nothing base .labels; payloads = nothing base .payloads }))) .state)
+    decide : (t : Bool) → Shaped ((refusedIf base 12 (not t) (nothing base) (answers base 0 (record { heads = firstHeads ts roles 8; counts = nothing base .counts; labels = nothing base .labels; payloads = nothing base .payloads }))) .state)
     decide true = record { heads-are = length-first ts roles 8; counts-are = refl; labels-are = refl; payloads-are = refl }
     decide false = record { heads-are = refl; counts-are = refl; labels-are = refl; payloads-are = refl }

@@ -60,6 +60,7 @@ pub taken-read : (s : Session) (p q h : ℕ) {l v : ℕ} {labels payloads : List
       number = 0;
       label = l;
       payload = v;
+      offered = base .labels;
       state = record { heads = set (s .heads) q h; counts = set (s .counts) (p * 8 + q) (getD (s .counts) (p * 8 + q) 0 - 1); labels = labels; payloads = payloads };
     }) (received base s p q h)
 taken-read s p q h lp lq nl np el ev fl fp =

@@ -11,17 +11,21 @@ use Rattle.blocks.specs.Head.{armsOf, find}
 use Rattle.blocks.specs.Tables.{tablesGood}
 use Rattle.state.specs.State.{arePair}
 use Rattle.session.specs.State.{headOf, held, labelAt, stateGood}
-use Rattle.session.specs.Calls.{refusedIf, judged, freshOf, sendArm, sendAt, sendOf, receiveArm, receiveAt, receiveOf}
+use Rattle.session.specs.Calls.{answers, refusedIf, judged, freshOf, sendArm, sendAt, sendOf, receiveArm, receiveAt, receiveOf}
 use Rattle.session.specs.Awaited.{awaitedOf}
 use Rattle.session.specs.Refused.{HandsBack, NamesNobody, RefusedKeeps}
 use Rattle.session.specs.declared.Session.{Session}
 use Rattle.session.specs.declared.Answer.{Answer}
 use Rattle.session.specs.declared.Awaiting.{Awaiting}
 
+-- an answer without a message
+back : (lim : Limits) (n : ℕ) (s : Session) → HandsBack lim s (answers lim n s)
+back lim n s = λ r. (refl, refl, refl, λ l t. refl)
+
 -- a test that refuses hands back, and so does the rest
-back-refused : (n : ℕ) (b : Bool) (s : Session) (rest : Answer) → HandsBack s rest → HandsBack s (refusedIf n b s rest)
-back-refused n true s rest h r = (refl, refl, refl)
-back-refused n false s rest h r = h r
+back-refused : (lim : Limits) (n : ℕ) (b : Bool) (s : Session) (rest : Answer) → HandsBack lim s rest → HandsBack lim s (refusedIf lim n b s rest)
+back-refused lim n true s rest h = back lim n s
+back-refused lim n false s rest h = h
 
 -- what holds of two answers holds of either
 either : (P : Awaiting → Type 0) (b : Bool) (x y : Awaiting) → P x → P y → P (cond b x y)
@@ -29,57 +33,57 @@ either P true x y h i = h
 either P false x y h i = i
 
 module _ (lim : Limits) (ts : List ℕ) (roles p q : ℕ) (s : Session) where
-  judged-back : (rest : Answer) → HandsBack s rest
-      → HandsBack s (judged lim ts roles p q s rest)
+  judged-back : (rest : Answer) → HandsBack lim s rest
+      → HandsBack lim s (judged lim ts roles p q s rest)
   judged-back rest h =
-      back-refused 12 (not (tablesGood lim ts roles)) s _ (
-      back-refused 13 (not (stateGood lim ts roles s)) s _ (back-refused 14 (not (arePair roles p q)) s rest h))
+      back-refused lim 12 (not (tablesGood lim ts roles)) s _ (
+      back-refused lim 13 (not (stateGood lim ts roles s)) s _ (back-refused lim 14 (not (arePair roles p q)) s rest h))
 
   module _ (l v : ℕ) where
-    arm-back : (o : Option ℕ) → HandsBack s (sendArm lim ts roles p q l v s o)
+    arm-back : (k : ℕ) (o : Option ℕ) → HandsBack lim s (sendArm lim ts roles p q l v s k o)
     unfolding sendArm
-    arm-back none = λ r. (refl, refl, refl)
-    arm-back (some c) = back-refused 17 (leb (lim .depth) (held lim s p q)) s _ (λ r. absurd (r refl))
+    arm-back k none = λ r. (refl, refl, refl, λ l t. absurd (l refl))
+    arm-back k (some c) = back-refused lim 17 (leb (lim .depth) (held lim s p q)) s _ (λ r. absurd (r refl))
 
-    at-back : (w : PartRow) → HandsBack s (sendAt lim ts roles p q l v s w)
+    at-back : (w : PartRow) → HandsBack lim s (sendAt lim ts roles p q l v s w)
     unfolding sendAt
-    at-back (End a b c) = λ r. (refl, refl, refl)
-    at-back (Arm k c n) = λ r. (refl, refl, refl)
-    at-back (Loop b x y) = λ r. (refl, refl, refl)
-    at-back (Back j x y) = λ r. (refl, refl, refl)
-    at-back (Send peer f x) = back-refused 15 (not (eqb peer q)) s _ (arm-back (find l (armsOf ts roles p f)))
-    at-back (Receive peer f x) = λ r. (refl, refl, refl)
-    at-back Other = λ r. (refl, refl, refl)
+    at-back (End a b c) = back lim 15 s
+    at-back (Arm k c n) = back lim 15 s
+    at-back (Loop b x y) = back lim 15 s
+    at-back (Back j x y) = back lim 15 s
+    at-back (Send peer f x) = back-refused lim 15 (not (eqb peer q)) s _ (arm-back _ (find l (armsOf ts roles p f)))
+    at-back (Receive peer f x) = back lim 15 s
+    at-back Other = back lim 15 s
 
-    pub send-back : HandsBack s (sendOf lim ts roles p q l v s)
+    pub send-back : HandsBack lim s (sendOf lim ts roles p q l v s)
     unfolding sendOf
     send-back = judged-back (sendAt lim ts roles p q l v s (partRow ts roles p (headOf s p))) (at-back (partRow ts roles p (headOf s p)))
 
-  get-back : (o : Option ℕ) → HandsBack s (receiveArm lim ts roles p q s o)
+  get-back : (k : ℕ) (o : Option ℕ) → HandsBack lim s (receiveArm lim ts roles p q s k o)
   unfolding receiveArm
-  get-back none = λ r. (refl, refl, refl)
-  get-back (some c) = λ r. absurd (r refl)
+  get-back k none = λ r. (refl, refl, refl, λ l t. absurd (t refl))
+  get-back k (some c) = λ r. absurd (r refl)
 
-  row-back : (w : PartRow) → HandsBack s (receiveAt lim ts roles p q s w)
+  row-back : (w : PartRow) → HandsBack lim s (receiveAt lim ts roles p q s w)
   unfolding receiveAt
-  row-back (End a b c) = λ r. (refl, refl, refl)
-  row-back (Arm k c n) = λ r. (refl, refl, refl)
-  row-back (Loop b x y) = λ r. (refl, refl, refl)
-  row-back (Back j x y) = λ r. (refl, refl, refl)
-  row-back (Send peer f x) = λ r. (refl, refl, refl)
+  row-back (End a b c) = back lim 15 s
+  row-back (Arm k c n) = back lim 15 s
+  row-back (Loop b x y) = back lim 15 s
+  row-back (Back j x y) = back lim 15 s
+  row-back (Send peer f x) = back lim 15 s
   row-back (Receive peer f x) =
-      back-refused 15 (not (eqb peer p)) s _ (
-      back-refused 18 (eqb (held lim s p q) 0) s _ (get-back (find (labelAt lim s p q 0) (armsOf ts roles q f))))
-  row-back Other = λ r. (refl, refl, refl)
+      back-refused lim 15 (not (eqb peer p)) s _ (
+      back-refused lim 18 (eqb (held lim s p q) 0) s _ (get-back _ (find (labelAt lim s p q 0) (armsOf ts roles q f))))
+  row-back Other = back lim 15 s
 
-  pub receive-back : HandsBack s (receiveOf lim ts roles p q s)
+  pub receive-back : HandsBack lim s (receiveOf lim ts roles p q s)
   unfolding receiveOf
   receive-back = judged-back (receiveAt lim ts roles p q s (partRow ts roles q (headOf s q))) (row-back (partRow ts roles q (headOf s q)))
 
 pub refused-keeps : (lim : Limits) → RefusedKeeps lim
 unfolding freshOf awaitedOf
 refused-keeps lim = record {
-  fresh = λ ts roles. back-refused 12 (not (tablesGood lim ts roles)) _ _ (λ r. absurd (r refl));
+  fresh = λ ts roles. back-refused lim 12 (not (tablesGood lim ts roles)) _ _ (λ r. absurd (r refl));
   send = λ s ts roles p q l v. send-back lim ts roles p q s l v;
   receive = λ s ts roles p q. receive-back lim ts roles p q s;
   awaited-state = λ s ts roles.

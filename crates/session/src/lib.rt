@@ -1,4 +1,5 @@
 // Sessions over opened tables: the state, and the answers of its calls.
+use blocks::rows::Found;
 use blocks::tables;
 use state::Turn;
 use state::calls;
@@ -11,7 +12,7 @@ ghost use Prim.Native.Nat.{_<_};
 ghost use Rattle.table.specs.Limits.{base};
 ghost use Rattle.session.specs.State.{held, moved, pushed};
 ghost use Rattle.session.specs.Promises.{Freshens, Sends, Receives, Awaits};
-ghost use Rattle.session.specs.Calls.{answers, received};
+ghost use Rattle.session.specs.Calls.{answers, offering, received};
 
 // Each role's head row, and for each ordered pair of roles (sender x ROLES + receiver) a queue of DEPTH slots, the oldest message in
 // the first.
@@ -76,6 +77,7 @@ impl Session {
         );
         match turn {
             Turn::Refused(number) => Answer::of(number, self),
+            Turn::Offered(number, least) => Answer::offering(number, least, self),
             Turn::To(head) => Answer::of(
                 Answer::ACCEPTED,
                 self.push(sender, receiver, label, payload, head),
@@ -121,6 +123,7 @@ impl Session {
         );
         match turn {
             Turn::Refused(number) => Answer::of(number, self),
+            Turn::Offered(number, least) => Answer::offering(number, least, self),
             Turn::To(head) => self.take(sender, receiver, head),
         }
     }
@@ -139,6 +142,7 @@ impl Session {
             number: Answer::ACCEPTED,
             label: label,
             payload: payload,
+            offered: Answer::NOLABEL,
             state: self,
         }
     }
@@ -166,11 +170,13 @@ impl Session {
     }
 }
 
-// What fresh, send and receive hand back: the number, the label and payload of an accepted receive (else 0), the state.
+// What fresh, send and receive hand back: the number, the label and payload of an accepted receive (else 0), the lowest label that the head
+// offers where the call was refused for its label (else NOLABEL), the state.
 pub struct Answer {
     pub number: u8,
     pub label: u8,
     pub payload: u32,
+    pub offered: u16,
     pub state: Session,
 }
 
@@ -190,14 +196,25 @@ impl Answer {
 
     pub const STATE: u8 = Turn::STATE;
 
-    // A number and a state, and no message.
+    // Nothing is offered.
+    pub const NOLABEL: u16 = Found::NOLABEL;
+
+    // A number and a state; no message, and nothing is offered.
     pub fn of(number: u8, state: Session) -> Answer
-        ensures { λ r. ⌜ r ≡ answers number state ⌝ }
+        ensures { λ r. ⌜ r ≡ answers base number state ⌝ }
+    {
+        Answer::offering(number, Answer::NOLABEL, state)
+    }
+
+    // A number, the lowest label that the head offers, and a state; no message.
+    fn offering(number: u8, offered: u16, state: Session) -> Answer
+        ensures { λ r. ⌜ r ≡ offering number offered state ⌝ }
     {
         Answer {
             number: number,
             label: 0,
             payload: 0,
+            offered: offered,
             state: state,
         }
     }

@@ -19,10 +19,16 @@ of-requires c κs = search needs
 enum-known-turn-2 : tie.Need-enum-known-turn-2
 enum-known-turn-2 c = search needs
 
+offering-requires : tie.Need-offering-requires
+offering-requires c κs = search needs
+
+enum-known-turn-3 : tie.Need-enum-known-turn-3
+enum-known-turn-3 c = search needs
+
 take-requires : tie.Need-take-requires
 take-requires c κs =
     let a = c .before .before .before .before .before .before .before .before .before .before .args in
-    let to = receive-to (a .tables .now) (a .roles) (a .sender) (a .receiver) (listed (a .t1)) _ (sym (c .before .before .before .judge-receive .ensures) ∙ c .before .turn2 .given .1) in
+    let to = receive-to (a .tables .now) (a .roles) (a .sender) (a .receiver) (listed (a .t1)) _ (sym (c .before .before .before .judge-receive .ensures) ∙ c .before .turn3 .given .1) in
     (to .p-low, to .q-low, to .received .some-held)
 
 returns : tie.Need-returns
@@ -35,8 +41,15 @@ returns c =
 returns-2 : tie.Need-returns-2
 returns-2 c =
     let a = c .before .before .before .before .before .before .before .before .before .before .before .args in
-    c .take .ensures
+    c .offering .ensures
     ∙ ap (afterReceive (a .tables .now) (a .roles) (a .sender) (a .receiver) (a .t1)) (sym (c .before .before .turn2 .given .1) ∙ c .before .before .before .before .judge-receive .ensures)
+    ∙ after-receive (a .tables .now) (a .roles) (a .sender) (a .receiver) (a .t1)
+
+returns-3 : tie.Need-returns-3
+returns-3 c =
+    let a = c .before .before .before .before .before .before .before .before .before .before .before .args in
+    c .take .ensures
+    ∙ ap (afterReceive (a .tables .now) (a .roles) (a .sender) (a .receiver) (a .t1)) (sym (c .before .before .turn3 .given .1) ∙ c .before .before .before .before .judge-receive .ensures)
     ∙ after-receive (a .tables .now) (a .roles) (a .sender) (a .receiver) (a .t1)
 
 pub receive-spec : {M : Type 1} → statement M
@@ -47,6 +60,9 @@ receive-spec =
     enum-known-turn
     of-requires
     enum-known-turn-2
+    offering-requires
+    enum-known-turn-3
     take-requires
     returns
-    returns-2)
+    returns-2
+    returns-3)
