@@ -6,3 +6,5 @@ pub mod Promises
 pub mod Accepted
 pub mod Kept
 pub mod Refused
+pub mod Before
+pub mod Offered

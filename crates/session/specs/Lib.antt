@@ -4,3 +4,5 @@ pub mod Calls
 pub mod Awaited
 pub mod Promises
 pub mod Refused
+pub mod Before
+pub mod Offered
