@@ -108,11 +108,7 @@ pub fn head(tables: &[u16], start: usize, rows: usize, row: u16) -> u16
 fn lower(a: u16, b: u16) -> u16
     ensures { λ r. ⌜ r ≡ min a b ⌝ }
 {
-    if a < b {
-        a
-    } else {
-        b
-    }
+    if a < b { a } else { b }
 }
 
 // The continuation of the arm with that label, in the chain that starts at `first`: the one lookup of send, receive and awaited. A lookup

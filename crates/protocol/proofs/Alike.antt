@@ -126,6 +126,8 @@ module _ {S : Type 0} (may : Call → Type 0) (good : S → Type 0) (e f : Engin
       never-stray = λ p q m. rw (same (receives p q) s m g) (d .never-stray p q m);
       never-tables = λ c m. rw (same c s m g) (d .never-tables c m);
       never-state = λ c m. rw (same c s m g) (d .never-state c m);
+      send-offers = λ p q l v m. rw (same (sends p q l v) s m g) (d .send-offers p q l v m);
+      else-offers = λ c m. rw (same c s m g) (d .else-offers c m);
       awaited = d .awaited;
       awaited-exactly = λ r h. (
         λ t. let (c, m, by, ok) = d .awaited-exactly r h .0 t in (c, m, by, rw (same c s m g) ok),

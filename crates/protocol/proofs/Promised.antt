@@ -185,7 +185,7 @@ elsewhere code = record {
   verdict = λ t roles room. cond (ltb roles (2 ^ 64)) (code .verdict t roles room) (says 9 9);
   filled = code .filled;
   fresh = code .fresh;
-  send = λ s ts roles p q l v. cond (ltb v (2 ^ 32)) (code .send s ts roles p q l v) (answers 9 s);
+  send = λ s ts roles p q l v. cond (ltb v (2 ^ 32)) (code .send s ts roles p q l v) (answers base 9 s);
   receive = code .receive;
   awaited = code .awaited;
 }

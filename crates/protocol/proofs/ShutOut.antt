@@ -1,6 +1,6 @@
 -- What demand 3 shuts out, of any engine, for the marked tables T1 and T5; and an invented count, other queues or other ends, for every table.
 -- Assumes nothing.
-use Prim.Native.Nat.{ℕ, _+_, _*_, _<_}
+use Prim.Native.Nat.{ℕ, _+_, _*_, _≤_, _<_}
 use mathlib.Core.Bool.{Bool, true, false, true≢false}
 use mathlib.Core.List.{List, [], _∷_}
 use mathlib.Core.Logic.{_≢_, _↔_}
@@ -23,7 +23,7 @@ use Rattle.parts.specs.Merge.{merge}
 use Rattle.opening.specs.Marked.{t1, t5, t11}
 use Rattle.opening.specs.Opening.{openOf, roomOf}
 use Rattle.blocks.specs.Head.{chain, find}
-use Rattle.state.specs.Numbers.{TURN, FULL, EMPTY}
+use Rattle.state.specs.Numbers.{TURN, LABEL, FULL, EMPTY}
 use Rattle.session.specs.Calls.{freshOf, sendOf}
 use Rattle.session.specs.declared.Answer.{Answer}
 use Rattle.session.specs.declared.Session.{Session}
@@ -36,7 +36,7 @@ use Rattle.protocol.specs.Steps.{Action, send, receive, here, Step, rule
 use Rattle.protocol.specs.Unrolled.{unrolled}
 use Rattle.protocol.specs.Demand3.{Every, every, after, ComesTo, no-call, accepted-call, HasCall, Follows, Conforms}
 use Rattle.protocol.specs.Stranded.{Place, oldest, NothingStranded}
-use Rattle.protocol.specs.ShutOut.{refusing, single, still, once, keeping, ignoring, counting, overcounting, saying, boasting}
+use Rattle.protocol.specs.ShutOut.{silent, refusing, single, still, once, keeping, ignoring, counting, overcounting, saying, boasting}
 use Rattle.protocol.proofs.Alike.{same-after, same-unread, forth}
 use Rattle.protocol.proofs.Demand3.{demand3-base}
 use Rattle.protocol.proofs.Promised.{enough-fits, tables-fit, law-of-the-code, sessions-fit}
@@ -131,6 +131,14 @@ still-fails e c = moves-nobody every every (still e) c (λ d _. refl)
 
 pub once-fails : {S : Type 0} (e : Engine S) → ¬ Conforms base Every (once e) t1 2
 once-fails e c = first-only every every (once e) c ACCEPTED (λ d d′ _ _. refl)
+
+-- one that gives T1's role 0 the number 16, and offers nothing (K2)
+pub silent-fails : {S : Type 0} (e : Engine S) (l : ℕ) → e .answer (sends 0 1 l 0) (e .fresh .state) .number ≡ LABEL
+    → ¬ Conforms base Every (silent e) t1 2
+silent-fails e l refused c =
+    let low = at-first every every (silent e) c .send-offers 0 1 l 0 every refused .1 5 (flight 0 1 5 0 end, rule-1 (here refl)) in
+    let z : 64 ≤ 5 = low in
+    omega arith
 
 -- ---- what K13 shuts out
 

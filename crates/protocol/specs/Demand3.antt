@@ -12,7 +12,7 @@ use Rattle.table.specs.Limits.{Limits}
 use Rattle.table.specs.Numbers.{ACCEPTED}
 use Rattle.table.specs.Tree.{Global, treeOf}
 use Rattle.opening.specs.Opening.{openOf, roomOf}
-use Rattle.state.specs.Numbers.{TABLES, STATE, STRAY}
+use Rattle.state.specs.Numbers.{TABLES, STATE, LABEL, STRAY}
 use Rattle.protocol.specs.Each.{Each}
 use Rattle.protocol.specs.Engine.{Call, sends, receives, caller, Reply, Engine, ours}
 use Rattle.protocol.specs.Left.{unread, NothingLeft}
@@ -77,6 +77,10 @@ pub record Follows {S : Type 0} (lim : Limits) (may : Call → Type 0) (e : Engi
   pub never-stray : (p q : ℕ) → may (receives p q) → e .answer (receives p q) s .number ≢ STRAY
   pub never-tables : (c : Call) → may c → e .answer c s .number ≢ TABLES
   pub never-state : (c : Call) → may c → e .answer c s .number ≢ STATE
+  -- a send that is refused for its label is offered the least that the step rules allow then (K2); every other answer has the limit's labels there
+  pub send-offers : (p q l v : ℕ) → may (sends p q l v) → e .answer (sends p q l v) s .number ≡ LABEL
+      → let k = e .answer (sends p q l v) s .offered in Allows G (send p q k v) × ((m : ℕ) → Allows G (send p q m v) → k ≤ m)
+  pub else-offers : (c : Call) → may c → e .answer c s .number ≢ LABEL → e .answer c s .offered ≡ lim .labels
   -- the awaited roles are exactly those with a call that would be accepted; how many they are; and the least, or the limit's roles for none
   pub awaited : ℕ → Bool
   pub awaited-exactly : (r : ℕ) → r < roles → (awaited r ≡ true) ↔ HasCall may e s r

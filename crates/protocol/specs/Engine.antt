@@ -22,11 +22,12 @@ abbrev pub caller : Call → ℕ
 caller (sends p q l v) = p
 caller (receives p q) = q
 
--- an answer: the number, the label and the payload that a receive returns, the next state
+-- an answer: the number, the label and the payload that a receive returns, the label that a refusal offers (K2), the next state
 pub record Reply (S : Type 0) : Type 0 where
   pub number : ℕ
   pub label : ℕ
   pub payload : ℕ
+  pub offered : ℕ
   pub state : S
 
 -- the awaited roles: the number, the roles as one number (setOf), how many they are, the lowest
@@ -50,7 +51,7 @@ pub record Engine (S : Type 0) : Type 1 where
 -- ---- engines over this library's sessions, with the tables ts of so many roles
 
 abbrev pub reply : Answer → Reply Session
-reply a = record { number = a .number; label = a .label; payload = a .payload; state = a .state }
+reply a = record { number = a .number; label = a .label; payload = a .payload; offered = a .offered; state = a .state }
 
 abbrev pub roleSet : Awaiting → RoleSet
 roleSet a = record { number = a .number; set = a .set; count = a .count; lowest = a .lowest }

@@ -17,13 +17,13 @@ pub record CodeRefusedKeeps (code : Code) : Type 0 where
   pub opening : (table : List ℕ) (roles : ℕ) (room : List ℕ) → Words table → Size roles → Words room
       → code .verdict table roles room .number ≢ ACCEPTED → code .filled table roles room ≡ room
   -- there was no state: it is all zeros
-  pub fresh : (tables : List ℕ) (roles : ℕ) → Words tables → Size roles → HandsBack (nothing base) (code .fresh tables roles)
+  pub fresh : (tables : List ℕ) (roles : ℕ) → Words tables → Size roles → HandsBack base (nothing base) (code .fresh tables roles)
   pub send : (state : Session) (tables : List ℕ) (roles sender receiver label payload : ℕ)
       → FitsSession state → Words tables → Size roles → Fits (sends sender receiver label payload)
-      → HandsBack state (code .send state tables roles sender receiver label payload)
+      → HandsBack base state (code .send state tables roles sender receiver label payload)
   pub receive : (state : Session) (tables : List ℕ) (roles sender receiver : ℕ)
       → FitsSession state → Words tables → Size roles → Fits (receives sender receiver)
-      → HandsBack state (code .receive state tables roles sender receiver)
+      → HandsBack base state (code .receive state tables roles sender receiver)
   -- the state, refused or not
   pub awaited-state : (state : Session) (tables : List ℕ) (roles : ℕ) → FitsSession state → Words tables → Size roles
       → code .awaited state tables roles .state ≡ state

@@ -2,17 +2,22 @@
 use Prim.Native.Nat.{ℕ, _+_, _*_}
 use mathlib.Core.Bool.{Bool, true, false, cond}
 use lib.Dec.{eqb}
+use Rattle.table.specs.Limits.{base}
 use Rattle.table.specs.Numbers.{ACCEPTED}
 use Rattle.state.specs.Numbers.{TURN, EMPTY}
 use Rattle.protocol.specs.Engine.{Call, sends, receives, caller, Reply, Engine}
 
--- a number, and no message
+-- a number, no message, and nothing is offered
 abbrev pub bare : {S : Type 0} → ℕ → S → Reply S
-bare n s = record { number = n; label = 0; payload = 0; state = s }
+bare n s = record { number = n; label = 0; payload = 0; offered = base .labels; state = s }
 
 -- e with other answers
 abbrev pub answering : {S : Type 0} → Engine S → (Call → S → Reply S) → Engine S
 answering e f = record { fresh = e .fresh; answer = f; awaited = e .awaited; held = e .held; ended = e .ended }
+
+-- answers as e does, and offers nothing
+abbrev pub silent : {S : Type 0} → Engine S → Engine S
+silent e = answering e (λ c s. let a = e .answer c s in record { number = a .number; label = a .label; payload = a .payload; offered = base .labels; state = a .state })
 
 -- refuses everything
 abbrev pub refusing : {S : Type 0} → Engine S → Engine S
@@ -24,16 +29,16 @@ single e a = answering e (λ c s. a)
 
 -- accepts what e accepts, and moves nobody
 abbrev pub still : {S : Type 0} → Engine S → Engine S
-still e = answering e (λ c s. let a = e .answer c s in record { number = a .number; label = a .label; payload = a .payload; state = s })
+still e = answering e (λ c s. let a = e .answer c s in record { number = a .number; label = a .label; payload = a .payload; offered = a .offered; state = s })
 
 -- follows e for its first call only, and then accepts anything: the state says whether a call was made
 abbrev pub laterAnswer : {S : Type 0} → Reply S → S → Bool → Reply (S × Bool)
 laterAnswer a s true = bare ACCEPTED (s, true)
-laterAnswer a s false = record { number = a .number; label = a .label; payload = a .payload; state = (a .state, true) }
+laterAnswer a s false = record { number = a .number; label = a .label; payload = a .payload; offered = a .offered; state = (a .state, true) }
 
 abbrev pub once : {S : Type 0} → Engine S → Engine (S × Bool)
 once e = record {
-  fresh = record { number = e .fresh .number; label = 0; payload = 0; state = (e .fresh .state, false) };
+  fresh = bare (e .fresh .number) (e .fresh .state, false);
   answer = λ c s. laterAnswer (e .answer c (s .0)) (s .0) (s .1);
   awaited = λ s. e .awaited (s .0);
   held = λ s p q. e .held (s .0) p q;

@@ -11,29 +11,29 @@ use Rattle.blocks.specs.Head.{armsOf, find}
 use Rattle.blocks.specs.Tables.{tablesGood}
 use Rattle.state.specs.State.{arePair}
 use Rattle.session.specs.State.{headOf, held, labelAt, nothing, stateGood}
-use Rattle.session.specs.Calls.{unless, standing, freshOf, sendArm, sendAt, sendOf, receiveArm, receiveAt, receiveOf}
+use Rattle.session.specs.Calls.{refusedIf, judged, freshOf, sendArm, sendAt, sendOf, receiveArm, receiveAt, receiveOf}
 use Rattle.session.specs.Before.{AnswerBefore, without, unlessBefore, standingBefore, sendArmBefore, sendAtBefore, receiveArmBefore, receiveAtBefore, AnswersStay}
 use Rattle.session.specs.declared.Session.{Session}
 use Rattle.session.specs.declared.Answer.{Answer}
 
 -- a test stays, where the rest does
-same-unless : (lim : Limits) (n : ℕ) (b : Bool) (s : Session) (rest : Answer) (before : AnswerBefore) → without rest ≡ before
-    → without (unless lim n b s rest) ≡ unlessBefore n b s before
-same-unless lim n true s rest before e = refl
-same-unless lim n false s rest before e = e
+same-refusedIf : (lim : Limits) (n : ℕ) (b : Bool) (s : Session) (rest : Answer) (before : AnswerBefore) → without rest ≡ before
+    → without (refusedIf lim n b s rest) ≡ unlessBefore n b s before
+same-refusedIf lim n true s rest before e = refl
+same-refusedIf lim n false s rest before e = e
 
 module _ (lim : Limits) (ts : List ℕ) (roles p q : ℕ) (s : Session) where
   same-standing : (rest : Answer) (before : AnswerBefore) → without rest ≡ before
-      → without (standing lim ts roles p q s rest) ≡ standingBefore lim ts roles p q s before
+      → without (judged lim ts roles p q s rest) ≡ standingBefore lim ts roles p q s before
   same-standing rest before e =
-      same-unless lim 12 (not (tablesGood lim ts roles)) s _ _ (
-      same-unless lim 13 (not (stateGood lim ts roles s)) s _ _ (same-unless lim 14 (not (arePair roles p q)) s rest before e))
+      same-refusedIf lim 12 (not (tablesGood lim ts roles)) s _ _ (
+      same-refusedIf lim 13 (not (stateGood lim ts roles s)) s _ _ (same-refusedIf lim 14 (not (arePair roles p q)) s rest before e))
 
   module _ (l v : ℕ) where
     same-send-arm : (k : ℕ) (o : Option ℕ) → without (sendArm lim ts roles p q l v s k o) ≡ sendArmBefore lim ts roles p q l v s o
     unfolding sendArm
     same-send-arm k none = refl
-    same-send-arm k (some c) = same-unless lim 17 (leb (lim .depth) (held lim s p q)) s _ _ refl
+    same-send-arm k (some c) = same-refusedIf lim 17 (leb (lim .depth) (held lim s p q)) s _ _ refl
 
     same-send-at : (row : PartRow) → without (sendAt lim ts roles p q l v s row) ≡ sendAtBefore lim ts roles p q l v s row
     unfolding sendAt
@@ -41,7 +41,7 @@ module _ (lim : Limits) (ts : List ℕ) (roles p q : ℕ) (s : Session) where
     same-send-at (Arm k c n) = refl
     same-send-at (Loop b x y) = refl
     same-send-at (Back j x y) = refl
-    same-send-at (Send peer f x) = same-unless lim 15 (not (eqb peer q)) s _ _ (same-send-arm _ (find l (armsOf ts roles p f)))
+    same-send-at (Send peer f x) = same-refusedIf lim 15 (not (eqb peer q)) s _ _ (same-send-arm _ (find l (armsOf ts roles p f)))
     same-send-at (Receive peer f x) = refl
     same-send-at Other = refl
 
@@ -58,14 +58,14 @@ module _ (lim : Limits) (ts : List ℕ) (roles p q : ℕ) (s : Session) where
   same-receive-at (Back j x y) = refl
   same-receive-at (Send peer f x) = refl
   same-receive-at (Receive peer f x) =
-      same-unless lim 15 (not (eqb peer p)) s _ _ (
-      same-unless lim 18 (eqb (held lim s p q) 0) s _ _ (same-receive-arm _ (find (labelAt lim s p q 0) (armsOf ts roles q f))))
+      same-refusedIf lim 15 (not (eqb peer p)) s _ _ (
+      same-refusedIf lim 18 (eqb (held lim s p q) 0) s _ _ (same-receive-arm _ (find (labelAt lim s p q 0) (armsOf ts roles q f))))
   same-receive-at Other = refl
 
 pub answers-stay : (lim : Limits) → AnswersStay lim
 unfolding freshOf sendOf receiveOf
 answers-stay lim = record {
-  fresh = λ ts roles. same-unless lim 12 (not (tablesGood lim ts roles)) (nothing lim) _ _ refl;
+  fresh = λ ts roles. same-refusedIf lim 12 (not (tablesGood lim ts roles)) (nothing lim) _ _ refl;
   send = λ s ts roles p q l v. same-standing lim ts roles p q s _ _ (same-send-at lim ts roles p q s l v (partRow ts roles p (headOf s p)));
   receive = λ s ts roles p q. same-standing lim ts roles p q s _ _ (same-receive-at lim ts roles p q s (partRow ts roles q (headOf s q)));
 }

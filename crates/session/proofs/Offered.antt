@@ -14,7 +14,7 @@ use Rattle.blocks.specs.Head.{armsOf, find, lowestLabel}
 use Rattle.blocks.specs.Tables.{tablesGood, rowHolds, toArm, isPeer}
 use Rattle.state.specs.State.{arePair}
 use Rattle.session.specs.State.{listed, headOf, held, labelAt, stateGood}
-use Rattle.session.specs.Calls.{offering, answers, unless, standing, freshOf, sendArm, sendAt, sendOf, receiveArm, receiveAt, receiveOf}
+use Rattle.session.specs.Calls.{offering, answers, refusedIf, judged, freshOf, sendArm, sendAt, sendOf, receiveArm, receiveAt, receiveOf}
 use Rattle.session.specs.Offered.{Least, WouldBeSent, WouldBeReceived, SaysWhatIsTaken}
 use Rattle.session.specs.declared.Session.{Session}
 use Rattle.session.specs.declared.Answer.{Answer}
@@ -26,39 +26,39 @@ use Rattle.session.proofs.Accepted.{arm-first, found-first, is-found}
 
 -- ---- the least label of a head
 
--- over good tables a link from row i to the first arm f
-module _ (ts : List ℕ) (roles : ℕ) (good : tablesGood base ts roles ≡ true) (r i f : ℕ) (present : r < roles) (link : toArm ts roles r i f ≡ true) where
-  reached : (k c : ℕ) → find k (armsOf ts roles r f) ≡ some c → Reached base ts roles r k c
-  reached k c e = chain-found base ts roles r (row-holds ts roles good r present) k c (blockRows ts roles) f (to-arm-in ts roles r i f link) e
+-- a link from row i of a good block to the first arm f
+module _ (lim : Limits) (ts : List ℕ) (roles r : ℕ) (holds : (i : ℕ) → i < blockRows ts roles → rowHolds lim ts roles r i (partRow ts roles r i) ≡ true)
+    (i f : ℕ) (inside : i < blockRows ts roles) (link : toArm ts roles r i f ≡ true) where
+  reached : (k c : ℕ) → find k (armsOf ts roles r f) ≡ some c → Reached lim ts roles r k c
+  reached k c e = chain-found lim ts roles r holds k c (blockRows ts roles) f (to-arm-in ts roles r i f link) e
 
-  least-arm : Least base (armsOf ts roles r f) (lowestLabel 64 (armsOf ts roles r f))
+  pub least-arm : Least lim (armsOf ts roles r f) (lowestLabel (lim .labels) (armsOf ts roles r f))
   least-arm =
       let (ab, arm) = both (ltb i f && ltb f (blockRows ts roles)) (isArm (partRow ts roles r f)) link in
       let up : i < f = ltb-true _ _ (both (ltb i f) (ltb f (blockRows ts roles)) ab .0) in
       let (l, c, n, is) = arm-first (partRow ts roles r f) arm in
-      let b = sized-bounds ts roles (blockRows ts roles) (good-sized ts roles good) in
-      let found = found-first ts roles r l c n (blockRows ts roles) f (b .2) (omega arith) is in
-      let (d, lowest) = lowest-found 64 l c (armsOf ts roles r f) found (reached l c found .low) in
+      let found = found-first ts roles r l c n (blockRows ts roles) f (omega arith) (omega arith) is in
+      let (d, lowest) = lowest-found (lim .labels) l c (armsOf ts roles r f) found (reached l c found .low) in
       record {
-        low = reached (lowestLabel 64 (armsOf ts roles r f)) d lowest .low;
+        low = reached (lowestLabel (lim .labels) (armsOf ts roles r f)) d lowest .low;
         among = rw lowest;
-        none-lower = λ m e. let (c′, g) = is-found (find m (armsOf ts roles r f)) e in lowest-least 64 m c′ (armsOf ts roles r f) g;
+        none-lower = λ m e. let (c′, g) = is-found (find m (armsOf ts roles r f)) e in lowest-least (lim .labels) m c′ (armsOf ts roles r f) g;
       }
 
 -- ---- which test refused
 
 -- not the one whose number is another
-passes : (n m : ℕ) (b : Bool) (s : Session) (rest : Answer) → n ≢ m → unless base n b s rest .number ≡ m → (b ≡ false) × (rest .number ≡ m)
+passes : (n m : ℕ) (b : Bool) (s : Session) (rest : Answer) → n ≢ m → refusedIf base n b s rest .number ≡ m → (b ≡ false) × (rest .number ≡ m)
 passes n m true s rest ne e = absurd (ne e)
 passes n m false s rest ne e = (refl, e)
 
-full-or-not : (s t : Session) (b : Bool) → let n = unless base 17 b s (answers base 0 t) .number in n ≡ 0 ⊎ n ≡ 17
+full-or-not : (s t : Session) (b : Bool) → let n = refusedIf base 17 b s (answers base 0 t) .number in n ≡ 0 ⊎ n ≡ 17
 full-or-not s t true = inr refl
 full-or-not s t false = inl refl
 
 module _ (ts : List ℕ) (roles p q : ℕ) (s : Session) where
   -- none of rules 12 to 14
-  stood : (m : ℕ) (rest : Answer) → 14 < m → standing base ts roles p q s rest .number ≡ m
+  stood : (m : ℕ) (rest : Answer) → 14 < m → judged base ts roles p q s rest .number ≡ m
       → (tablesGood base ts roles ≡ true) × (stateGood base ts roles s ≡ true) × (arePair roles p q ≡ true) × (rest .number ≡ m)
   stood m rest past e =
       let (a, e1) = passes 12 m (not (tablesGood base ts roles)) s _ (λ z. omega arith) e in
@@ -120,11 +120,11 @@ module _ (ts : List ℕ) (roles p q : ℕ) (s : Session) where
 
 module _ (ts : List ℕ) (roles p q : ℕ) (s : Session) (good : tablesGood base ts roles ≡ true) (whole : stateGood base ts roles s ≡ true)
     (two : arePair roles p q ≡ true) (f x : ℕ) where
-  -- the row of a present role's head
-  head-holds : (r : ℕ) → r < roles → rowHolds base ts roles r (headOf s r) (partRow ts roles r (headOf s r)) ≡ true
-  head-holds r present =
+  -- a present role's head is a row of its block
+  head-inside : (r : ℕ) → r < roles → headOf s r < blockRows ts roles
+  head-inside r present =
       let b = sized-bounds ts roles (blockRows ts roles) (good-sized ts roles good) in
-      row-holds ts roles good r present (headOf s r) (head-stands ts roles (listed s) whole r present (omega (arith, b .1)) .0)
+      head-stands ts roles (listed s) whole r present (omega (arith, b .1)) .0
 
   module _ (is : partRow ts roles p (headOf s p) ≡ Send q f x) where
     -- a label among the arms
@@ -145,9 +145,9 @@ module _ (ts : List ℕ) (roles p q : ℕ) (s : Session) (good : tablesGood base
     unfolding rowHolds
     would-be-sent =
         let (ip, iq, ne) = pair-in roles p q two in
-        let row : rowHolds base ts roles p (headOf s p) (Send q f x) ≡ true = rw is at (head-holds p ip) in
+        let row : rowHolds base ts roles p (headOf s p) (Send q f x) ≡ true = rw is at (row-holds ts roles good p ip (headOf s p) (head-inside p ip)) in
         let (ab, zero) = both (isPeer roles p q && toArm ts roles p (headOf s p) f) (eqb x 0) row in
-        let least = least-arm ts roles good p (headOf s p) f ip (both (isPeer roles p q) (toArm ts roles p (headOf s p) f) ab .1) in
+        let least = least-arm base ts roles p (row-holds ts roles good p ip) (headOf s p) f (head-inside p ip) (both (isPeer roles p q) (toArm ts roles p (headOf s p) f) ab .1) in
         let (c, found) = is-found (find (lowestLabel 64 (armsOf ts roles p f)) (armsOf ts roles p f)) (least .among) in
         record {
           first = f;
@@ -167,12 +167,12 @@ module _ (ts : List ℕ) (roles p q : ℕ) (s : Session) (good : tablesGood base
     unfolding rowHolds
     would-be-received =
         let (ip, iq, ne) = pair-in roles p q two in
-        let row : rowHolds base ts roles q (headOf s q) (Receive p f x) ≡ true = rw is at (head-holds q iq) in
+        let row : rowHolds base ts roles q (headOf s q) (Receive p f x) ≡ true = rw is at (row-holds ts roles good q iq (headOf s q) (head-inside q iq)) in
         let (ab, zero) = both (isPeer roles q p && toArm ts roles q (headOf s q) f) (eqb x 0) row in
         record {
           first = f;
           is = is ∙ rw (eqb-true x 0 zero);
-          least = least-arm ts roles good q (headOf s q) f iq (both (isPeer roles q p) (toArm ts roles q (headOf s q) f) ab .1);
+          least = least-arm base ts roles q (row-holds ts roles good q iq) (headOf s q) f (head-inside q iq) (both (isPeer roles q p) (toArm ts roles q (headOf s q) f) ab .1);
         }
 
 -- ---- every other answer offers nothing
@@ -181,20 +181,20 @@ module _ (ts : List ℕ) (roles p q : ℕ) (s : Session) (good : tablesGood base
 abbrev OffersElse : Limits → ℕ → Answer → Type 0
 OffersElse lim m a = a .number ≢ m → a .offered ≡ lim .labels
 
-else-unless : (lim : Limits) (m n : ℕ) (b : Bool) (s : Session) (rest : Answer) → OffersElse lim m rest → OffersElse lim m (unless lim n b s rest)
-else-unless lim m n true s rest h = λ ne. refl
-else-unless lim m n false s rest h = h
+else-refusedIf : (lim : Limits) (m n : ℕ) (b : Bool) (s : Session) (rest : Answer) → OffersElse lim m rest → OffersElse lim m (refusedIf lim n b s rest)
+else-refusedIf lim m n true s rest h = λ ne. refl
+else-refusedIf lim m n false s rest h = h
 
 module _ (lim : Limits) (ts : List ℕ) (roles p q : ℕ) (s : Session) where
-  else-standing : (m : ℕ) (rest : Answer) → OffersElse lim m rest → OffersElse lim m (standing lim ts roles p q s rest)
+  else-standing : (m : ℕ) (rest : Answer) → OffersElse lim m rest → OffersElse lim m (judged lim ts roles p q s rest)
   else-standing m rest h =
-      else-unless lim m 12 (not (tablesGood lim ts roles)) s _ (
-      else-unless lim m 13 (not (stateGood lim ts roles s)) s _ (else-unless lim m 14 (not (arePair roles p q)) s rest h))
+      else-refusedIf lim m 12 (not (tablesGood lim ts roles)) s _ (
+      else-refusedIf lim m 13 (not (stateGood lim ts roles s)) s _ (else-refusedIf lim m 14 (not (arePair roles p q)) s rest h))
 
   else-sent : (l v k : ℕ) (o : Option ℕ) → OffersElse lim 16 (sendArm lim ts roles p q l v s k o)
   unfolding sendArm
   else-sent l v k none = λ ne. absurd (ne refl)
-  else-sent l v k (some c) = else-unless lim 16 17 (leb (lim .depth) (held lim s p q)) s _ (λ ne. refl)
+  else-sent l v k (some c) = else-refusedIf lim 16 17 (leb (lim .depth) (held lim s p q)) s _ (λ ne. refl)
 
   else-send : (l v : ℕ) (row : PartRow) → OffersElse lim 16 (sendAt lim ts roles p q l v s row)
   unfolding sendAt
@@ -202,7 +202,7 @@ module _ (lim : Limits) (ts : List ℕ) (roles p q : ℕ) (s : Session) where
   else-send l v (Arm k c n) = λ ne. refl
   else-send l v (Loop b x y) = λ ne. refl
   else-send l v (Back j x y) = λ ne. refl
-  else-send l v (Send peer f x) = else-unless lim 16 15 (not (eqb peer q)) s _ (else-sent l v _ (find l (armsOf ts roles p f)))
+  else-send l v (Send peer f x) = else-refusedIf lim 16 15 (not (eqb peer q)) s _ (else-sent l v _ (find l (armsOf ts roles p f)))
   else-send l v (Receive peer f x) = λ ne. refl
   else-send l v Other = λ ne. refl
 
@@ -219,11 +219,11 @@ module _ (lim : Limits) (ts : List ℕ) (roles p q : ℕ) (s : Session) where
   else-receive (Back j x y) = λ ne. refl
   else-receive (Send peer f x) = λ ne. refl
   else-receive (Receive peer f x) =
-      else-unless lim 19 15 (not (eqb peer p)) s _ (
-      else-unless lim 19 18 (eqb (held lim s p q) 0) s _ (else-received _ (find (labelAt lim s p q 0) (armsOf ts roles q f))))
+      else-refusedIf lim 19 15 (not (eqb peer p)) s _ (
+      else-refusedIf lim 19 18 (eqb (held lim s p q) 0) s _ (else-received _ (find (labelAt lim s p q 0) (armsOf ts roles q f))))
   else-receive Other = λ ne. refl
 
-fresh-none : (lim : Limits) (b : Bool) (s t : Session) → unless lim 12 b s (answers lim 0 t) .offered ≡ lim .labels
+fresh-none : (lim : Limits) (b : Bool) (s t : Session) → refusedIf lim 12 b s (answers lim 0 t) .offered ≡ lim .labels
 fresh-none lim true s t = refl
 fresh-none lim false s t = refl
 

@@ -29,11 +29,13 @@ use Rattle.protocol.proofs.Sessions.Walks.{holds, send-row}
 use Rattle.protocol.proofs.Sessions.Calls.{
   standsAt,
   stands-row,
+  unknown-not,
   sending,
   receiving,
   plain,
   SendCase,
   send-refused,
+  send-unknown,
   send-accepted,
   ReceiveCase,
   receive-refused,
@@ -50,6 +52,7 @@ module _ (lim : Limits) (ts : List ℕ) (roles : ℕ) (ground : Ground lim ts ro
   pub send-is-accepted : {p q l v : ℕ} {a : Answer} → SendCase lim ts roles s p q l v a → (c : ℕ) → Does (send p q l v) (standsAt lim ts roles s p) c
       → held lim s p q < lim .depth → a .number ≡ ACCEPTED
   send-is-accepted (send-refused n cannot) c d room = absurd (cannot c d room)
+  send-is-accepted {p} {q} {l} {v} (send-unknown arms f e) c d room = absurd (unknown-not lim ts roles s p q l v arms f e c d)
   send-is-accepted (send-accepted c′ two d′ room′) c d room = refl
 
   pub receive-is-accepted : {p q : ℕ} {a : Answer} → ReceiveCase lim ts roles s p q a → (l v c : ℕ)
@@ -65,6 +68,7 @@ module _ (lim : Limits) (ts : List ℕ) (roles : ℕ) (ground : Ground lim ts ro
   sent-awaited : {p q l v : ℕ} {a : Answer} → SendCase lim ts roles s p q l v a → a .number ≡ ACCEPTED → isAwaited lim ts roles s p ≡ true
   unfolding canAct
   sent-awaited (send-refused n cannot) e = absurd (plain n .not-accepted e)
+  sent-awaited (send-unknown arms f u) e = absurd (omega arith)
   sent-awaited {p} {q} (send-accepted c two d room) e =
       let (arms, f, g) = of-send d in
       let at = sending lim ts roles s (ground .tables) (ground .good) (inv .kept) p q arms f in

@@ -12,12 +12,12 @@ use borrow.Author.Tests.{eqb-true, eqb-false, leb-true, leb-false, le-ltb}
 use Rattle.table.specs.Limits.{Limits}
 use Rattle.table.specs.Numbers.{ACCEPTED}
 use Rattle.blocks.specs.Block.{PartRow, End, Arm, Loop, Back, Send, Receive, Other, partRow, blockRows}
-use Rattle.blocks.specs.Head.{ArmAt, head, armsOf, find}
+use Rattle.blocks.specs.Head.{ArmAt, head, armsOf, find, lowestLabel}
 use Rattle.blocks.specs.Tables.{rowGood, tablesGood}
 use Rattle.state.specs.Numbers.{TABLES, STATE, PARTY, TURN, LABEL, FULL, EMPTY, STRAY}
 use Rattle.state.specs.State.{arePair}
 use Rattle.session.specs.State.{headOf, held, labelAt, payloadAt, moved, pushed, taken}
-use Rattle.session.specs.Calls.{answers, refusedIf, sendArm, sendAt, sendOf, receiveArm, receiveAt, receiveOf}
+use Rattle.session.specs.Calls.{offering, answers, received, refusedIf, sendArm, sendAt, sendOf, receiveArm, receiveAt, receiveOf}
 use Rattle.session.specs.declared.Answer.{Answer}
 use Rattle.session.specs.declared.Session.{Session}
 use Rattle.protocol.specs.Steps.{send, receive}
@@ -80,11 +80,10 @@ look-receive ts roles r x q arms (Send q′ f a) e = absurd (send≢receive refl
 look-receive ts roles r x q arms (Receive q′ f a) e = (f, a, ap (λ z. Receive z f a) (same-receive refl e .0))
 look-receive ts roles r x q arms Other e = absurd (loop≢receive refl e)
 
--- the numbers with which a call over good tables and a good state is refused, STRAY apart
+-- the numbers with which a call over good tables and a good state is refused, LABEL and STRAY apart
 pub data Refusal : ℕ → Type 0 where
   is-party : Refusal PARTY
   is-turn : Refusal TURN
-  is-label : Refusal LABEL
   is-full : Refusal FULL
   is-empty : Refusal EMPTY
 
@@ -92,12 +91,12 @@ pub record Plain (n : ℕ) : Type 0 where
   pub not-accepted : n ≢ ACCEPTED
   pub not-tables : n ≢ TABLES
   pub not-state : n ≢ STATE
+  pub not-label : n ≢ LABEL
   pub not-stray : n ≢ STRAY
 
 pub plain : {n : ℕ} → Refusal n → Plain n
 plain is-party = omega arith
 plain is-turn = omega arith
-plain is-label = omega arith
 plain is-full = omega arith
 plain is-empty = omega arith
 
@@ -125,19 +124,20 @@ module _ (lim : Limits) (ts : List ℕ) (roles : ℕ) (s : Session) where
     pub first-in : first < blockRows ts roles
 
   pub data SendCase (p q l v : ℕ) : Answer → Type 0 where
-    send-refused : {n : ℕ} → Refusal n → ((c : ℕ) → Does (send p q l v) (standsAt p) c → held lim s p q < lim .depth → ⊥) → SendCase p q l v (answers n s)
+    send-refused : {n : ℕ} → Refusal n → ((c : ℕ) → Does (send p q l v) (standsAt p) c → held lim s p q < lim .depth → ⊥) → SendCase p q l v (answers lim n s)
+    send-unknown : (arms : List ArmAt) → standsAt p ≡ v-send q arms → find l arms ≡ none
+        → SendCase p q l v (offering LABEL (lowestLabel (lim .labels) arms) s)
     send-accepted : (c : ℕ) → Pair roles p q → Does (send p q l v) (standsAt p) c → held lim s p q < lim .depth
-        → SendCase p q l v (answers ACCEPTED (moved (pushed lim s p q l v) p (head ts roles p c)))
+        → SendCase p q l v (answers lim ACCEPTED (moved (pushed lim s p q l v) p (head ts roles p c)))
 
   pub data ReceiveCase (p q : ℕ) : Answer → Type 0 where
-    receive-refused : {n : ℕ} → Refusal n → ((l v c : ℕ) → Does (receive p q l v) (standsAt q) c → 0 < held lim s p q → ⊥) → ReceiveCase p q (answers n s)
+    receive-refused : {n : ℕ} → Refusal n → ((l v c : ℕ) → Does (receive p q l v) (standsAt q) c → 0 < held lim s p q → ⊥) → ReceiveCase p q (answers lim n s)
     receive-accepted : (c : ℕ) → Pair roles p q → Does (receive p q (labelAt lim s p q 0) (payloadAt lim s p q 0)) (standsAt q) c
-        → 0 < held lim s p q → ReceiveCase p q (record {
-          number = ACCEPTED;
-          label = labelAt lim s p q 0;
-          payload = payloadAt lim s p q 0;
-          state = moved (taken lim s p q) q (head ts roles q c);
-        })
+        → 0 < held lim s p q → ReceiveCase p q (received lim s p q (head ts roles q c))
+
+  -- a label that is unknown is not sent
+  pub unknown-not : (p q l v : ℕ) (arms : List ArmAt) → standsAt p ≡ v-send q arms → find l arms ≡ none → (c : ℕ) → Does (send p q l v) (standsAt p) c → ⊥
+  unknown-not p q l v arms f e c d = let (arms′, f′, g) = of-send d in none≢some (sym e ∙ (ap (find l) (same-send f f′ .1) ∙ g))
 
   module _ (tables : tablesGood lim ts roles ≡ true)
       (good : (r x : ℕ) → r < roles → x < blockRows ts roles → rowGood lim ts roles r x ≡ true) (k : StateKept lim ts roles s) where
@@ -190,12 +190,12 @@ module _ (lim : Limits) (ts : List ℕ) (roles : ℕ) (s : Session) where
 
     module _ (p q l v : ℕ) where
       cannot-send : {n : ℕ} → Refusal n → ((arms : List ArmAt) → standsAt p ≡ v-send q arms → ⊥)
-          → SendCase p q l v (answers n s)
+          → SendCase p q l v (answers lim n s)
       cannot-send a f = send-refused a (λ x d room. let (arms, e, g) = of-send d in f arms e)
 
       send-room : (c : ℕ) (arms : List ArmAt) (b : Bool) → leb (lim .depth) (held lim s p q) ≡ b → Pair roles p q
           → standsAt p ≡ v-send q arms → find l arms ≡ some c
-          → SendCase p q l v (cond b (answers FULL s) (answers ACCEPTED (moved (pushed lim s p q l v) p (head ts roles p c))))
+          → SendCase p q l v (cond b (answers lim FULL s) (answers lim ACCEPTED (moved (pushed lim s p q l v) p (head ts roles p c))))
       send-room c arms true e two f g =
           let full : lim .depth ≤ held lim s p q = leb-true (lim .depth) (held lim s p q) e in
           send-refused is-full (λ x d room. omega arith)
@@ -203,14 +203,13 @@ module _ (lim : Limits) (ts : List ℕ) (roles : ℕ) (s : Session) where
           send-accepted c two (rw f (does-send {q = q} {arms = arms} g)) (leb-false (lim .depth) (held lim s p q) e)
 
       send-found : (arms : List ArmAt) (o : Option ℕ) → find l arms ≡ o → Pair roles p q → standsAt p ≡ v-send q arms
-          → SendCase p q l v (sendArm lim ts roles p q l v s o)
+          → SendCase p q l v (sendArm lim ts roles p q l v s (lowestLabel (lim .labels) arms) o)
       unfolding sendArm
-      send-found arms none e two f =
-          send-refused is-label (λ x d room. let (arms′, f′, g) = of-send d in none≢some (sym e ∙ (ap (find l) (same-send f f′ .1) ∙ g)))
+      send-found arms none e two f = send-unknown arms f e
       send-found arms (some c) e two f = send-room c arms (leb (lim .depth) (held lim s p q)) refl two f e
 
       send-peer : (peer : ℕ) (arms : List ArmAt) (b : Bool) → eqb peer q ≡ b → Pair roles p q → standsAt p ≡ v-send peer arms
-          → SendCase p q l v (cond (not b) (answers TURN s) (sendArm lim ts roles p q l v s (find l arms)))
+          → SendCase p q l v (cond (not b) (answers lim TURN s) (sendArm lim ts roles p q l v s (lowestLabel (lim .labels) arms) (find l arms)))
       send-peer peer arms true e two f =
           let same : peer ≡ q = eqb-true peer q e in send-found arms (find l arms) refl two (rw same at f)
       send-peer peer arms false e two f =
@@ -233,7 +232,7 @@ module _ (lim : Limits) (ts : List ℕ) (roles : ℕ) (s : Session) where
           cannot-send is-turn (λ arms f. loop≢send (stands-row p _ (two .sender-in) e) f)
 
       send-party : (b : Bool) → arePair roles p q ≡ b
-          → SendCase p q l v (cond (not b) (answers PARTY s) (sendAt lim ts roles p q l v s (partRow ts roles p (headOf s p))))
+          → SendCase p q l v (cond (not b) (answers lim PARTY s) (sendAt lim ts roles p q l v s (partRow ts roles p (headOf s p))))
       send-party true e = send-row-case (partRow ts roles p (headOf s p)) refl (pair-facts roles p q e)
       send-party false e =
           cannot-send is-party (λ arms f. not-pair p q e (sending p q arms f .pair))
@@ -246,17 +245,17 @@ module _ (lim : Limits) (ts : List ℕ) (roles : ℕ) (s : Session) where
 
     module _ (p q : ℕ)
         (known : (arms : List ArmAt) → standsAt q ≡ v-receive p arms → 0 < held lim s p q → (c : ℕ) × (find (labelAt lim s p q 0) arms ≡ some c)) where
-      cannot-receive : {n : ℕ} → Refusal n → ((arms : List ArmAt) → standsAt q ≡ v-receive p arms → ⊥) → ReceiveCase p q (answers n s)
+      cannot-receive : {n : ℕ} → Refusal n → ((arms : List ArmAt) → standsAt q ≡ v-receive p arms → ⊥) → ReceiveCase p q (answers lim n s)
       cannot-receive a f = receive-refused a (λ l v x t held. let (arms, e, g) = of-receive t in f arms e)
 
       receive-found : (arms : List ArmAt) (o : Option ℕ) → find (labelAt lim s p q 0) arms ≡ o → Pair roles p q → standsAt q ≡ v-receive p arms
-          → 0 < held lim s p q → ReceiveCase p q (receiveArm lim ts roles p q s o)
+          → 0 < held lim s p q → ReceiveCase p q (receiveArm lim ts roles p q s (lowestLabel (lim .labels) arms) o)
       unfolding receiveArm
       receive-found arms none e two f some-held = let (c, g) = known arms f some-held in none≢some (sym e ∙ g)
       receive-found arms (some c) e two f some-held = receive-accepted c two (rw f (does-receive {p = p} {arms = arms} e)) some-held
 
       receive-held : (arms : List ArmAt) (b : Bool) → eqb (held lim s p q) 0 ≡ b → Pair roles p q → standsAt q ≡ v-receive p arms
-          → ReceiveCase p q (cond b (answers EMPTY s) (receiveArm lim ts roles p q s (find (labelAt lim s p q 0) arms)))
+          → ReceiveCase p q (cond b (answers lim EMPTY s) (receiveArm lim ts roles p q s (lowestLabel (lim .labels) arms) (find (labelAt lim s p q 0) arms)))
       receive-held arms true e two f =
           let none-held : held lim s p q ≡ 0 = eqb-true (held lim s p q) 0 e in
           receive-refused is-empty (λ l v x d some-held. omega arith)
@@ -265,8 +264,8 @@ module _ (lim : Limits) (ts : List ℕ) (roles : ℕ) (s : Session) where
           receive-found arms (find (labelAt lim s p q 0) arms) refl two f (omega arith)
 
       receive-peer : (peer : ℕ) (arms : List ArmAt) (b : Bool) → eqb peer p ≡ b → Pair roles p q → standsAt q ≡ v-receive peer arms
-          → ReceiveCase p q (cond (not b) (answers TURN s)
-          (refusedIf EMPTY (eqb (held lim s p q) 0) s (receiveArm lim ts roles p q s (find (labelAt lim s p q 0) arms))))
+          → ReceiveCase p q (cond (not b) (answers lim TURN s)
+          (refusedIf lim EMPTY (eqb (held lim s p q) 0) s (receiveArm lim ts roles p q s (lowestLabel (lim .labels) arms) (find (labelAt lim s p q 0) arms))))
       receive-peer peer arms true e two f =
           let same : peer ≡ p = eqb-true peer p e in receive-held arms (eqb (held lim s p q) 0) refl two (rw same at f)
       receive-peer peer arms false e two f =
@@ -289,7 +288,7 @@ module _ (lim : Limits) (ts : List ℕ) (roles : ℕ) (s : Session) where
           cannot-receive is-turn (λ arms f. loop≢receive (stands-row q _ (two .receiver-in) e) f)
 
       receive-party : (b : Bool) → arePair roles p q ≡ b
-          → ReceiveCase p q (cond (not b) (answers PARTY s) (receiveAt lim ts roles p q s (partRow ts roles q (headOf s q))))
+          → ReceiveCase p q (cond (not b) (answers lim PARTY s) (receiveAt lim ts roles p q s (partRow ts roles q (headOf s q))))
       receive-party true e = receive-row-case (partRow ts roles q (headOf s q)) refl (pair-facts roles p q e)
       receive-party false e =
           cannot-receive is-party (λ arms f. not-pair p q e (receiving p q arms f .pair))

@@ -28,7 +28,7 @@ use Rattle.protocol.specs.Fits.{Bits, Words, Fits, fits-send, FitsSessio
 use Rattle.protocol.proofs.Parts.Sound.{Sound, s-end, s-send, s-receive, s-loop, s-back, SoundArms, s-nil, s-arm}
 use Rattle.protocol.proofs.Blocks.Opening.{Opened}
 use Rattle.protocol.proofs.Blocks.Tables.{TreeKept, part-fits, part-sound, length-tables, block-rows}
-use Rattle.protocol.proofs.Sessions.Calls.{SendCase, send-refused, send-accepted, ReceiveCase, receive-refused, receive-accepted}
+use Rattle.protocol.proofs.Sessions.Calls.{SendCase, send-refused, send-unknown, send-accepted, ReceiveCase, receive-refused, receive-accepted}
 use Rattle.protocol.proofs.Sessions.Runs.{Ground, Inv, send-target, the-send, the-receive}
 
 -- ---- lists
@@ -110,6 +110,7 @@ taken-small {s} p q x k =
 module _ (ts : List ℕ) (roles : ℕ) (ground : Ground base ts roles) (s : Session) (G : Global ℕ) (inv : Inv base ts roles s G) where
   sent-fits : {p q l v : ℕ} {a : Answer} → v < 2 ^ 32 → Small s → SendCase base ts roles s p q l v a → Small (a .state)
   sent-fits h k (send-refused n cannot) = k
+  sent-fits h k (send-unknown arms f e) = k
   sent-fits {p} {q} {l} {v} h k (send-accepted c two d room) =
       sent-small p q l v (head ts roles p c) room (send-target base ts roles ground s G inv p q l v c d .low) h k
 

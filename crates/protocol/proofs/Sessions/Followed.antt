@@ -18,26 +18,29 @@ use Rattle.table.specs.Numbers.{ACCEPTED}
 use Rattle.table.specs.Tree.{Global}
 use Rattle.table.proofs.Tests.{both}
 use Rattle.blocks.specs.Block.{PartRow, End, Arm, Loop, Back, Send, Receive, Other, partRow, isHead}
-use Rattle.blocks.specs.Head.{head}
-use Rattle.blocks.specs.Tables.{rowHolds}
-use Rattle.state.specs.Numbers.{TABLES, STATE, STRAY}
+use Rattle.blocks.specs.Head.{ArmAt, head, find, lowestLabel}
+use Rattle.blocks.specs.Tables.{rowHolds, toArm, isPeer}
+use Rattle.state.specs.Numbers.{TABLES, STATE, LABEL, STRAY}
 use Rattle.state.specs.State.{arePair}
 use Rattle.state.specs.Awaited.{canAct}
 use Rattle.session.specs.State.{headOf, held, labelAt, payloadAt}
 use Rattle.session.specs.Awaited.{isAwaited, awaitedOf}
+use Rattle.session.specs.Offered.{Least}
 use Rattle.session.specs.declared.Answer.{Answer}
 use Rattle.session.specs.declared.Session.{Session}
+use Rattle.session.proofs.Accepted.{is-found}
+use Rattle.session.proofs.Offered.{least-arm}
 use Rattle.protocol.specs.Steps.{Action, send, receive}
 use Rattle.protocol.specs.Engine.{Call, sends, receives, answerTo, ours}
 use Rattle.protocol.specs.Left.{NothingLeft}
 use Rattle.protocol.specs.Demand3.{Every, every, Allows, Finished, Follows}
-use Rattle.protocol.proofs.Invariant.View.{View, v-end, v-send, v-receive, v-loop, v-back, Does, of-send, end≢send, end≢receive, end≢loop, end≢back}
+use Rattle.protocol.proofs.Invariant.View.{View, v-end, v-send, v-receive, v-loop, v-back, Does, does-send, of-send, same-send, end≢send, end≢receive, end≢loop, end≢back}
 use Rattle.protocol.proofs.Invariant.Agree.{sender, receiver, IsSend, is-send, Config, Moves, m-send, m-receive}
 use Rattle.protocol.proofs.Invariant.Holds.{Holds}
 use Rattle.protocol.proofs.Invariant.Ended.{end-left, left-ends}
 use Rattle.protocol.proofs.Invariant.Unread.{holds-once}
 use Rattle.protocol.proofs.Invariant.Queues.{nil≢cons}
-use Rattle.protocol.proofs.Invariant.Theorems.{one≢0, preservation, progress, Unfinished}
+use Rattle.protocol.proofs.Invariant.Theorems.{one≢0, preservation, completeness, progress, Unfinished}
 use Rattle.protocol.proofs.Blocks.Views.{look, viewOf}
 use Rattle.protocol.proofs.Sessions.Walks.{holds}
 use Rattle.protocol.proofs.Sessions.States.{Pair, state-good}
@@ -49,6 +52,7 @@ use Rattle.protocol.proofs.Sessions.Calls.{
   plain,
   SendCase,
   send-refused,
+  send-unknown,
   send-accepted,
   ReceiveCase,
   receive-refused,
@@ -164,6 +168,7 @@ module _ (lim : Limits) (ts : List ℕ) (roles : ℕ) (ground : Ground lim ts ro
       → a .number ≡ ACCEPTED → Allows G (send p q l v) × (held lim s p q < lim .depth)
   sent-allowed p q l v (refused n e) c ok = absurd (n ok)
   sent-allowed p q l v (accepted G′ n step i) (send-refused r cannot) ok = absurd (plain r .not-accepted ok)
+  sent-allowed p q l v (accepted G′ n step i) (send-unknown arms f u) ok = absurd (omega arith)
   sent-allowed p q l v (accepted G′ n step i) (send-accepted c two d room) ok = ((G′, step), room)
 
   received-allowed : (p q : ℕ) {a : Answer} → Outcome lim ts roles ground s G inv (receives p q) a → a .number ≡ ACCEPTED
@@ -184,6 +189,7 @@ module _ (lim : Limits) (ts : List ℕ) (roles : ℕ) (ground : Ground lim ts ro
 
   send-not : {p q l v : ℕ} {a : Answer} → SendCase lim ts roles s p q l v a → (a .number ≢ TABLES) × (a .number ≢ STATE)
   send-not (send-refused n cannot) = (plain n .not-tables, plain n .not-state)
+  send-not (send-unknown arms f u) = (λ e. omega arith, λ e. omega arith)
   send-not (send-accepted c two d room) = (λ e. omega arith, λ e. omega arith)
 
   receive-not : {p q : ℕ} {a : Answer} → ReceiveCase lim ts roles s p q a → (a .number ≢ TABLES) × (a .number ≢ STATE)
@@ -194,6 +200,51 @@ module _ (lim : Limits) (ts : List ℕ) (roles : ℕ) (ground : Ground lim ts ro
   unfolding answerTo
   call-not (sends p q l v) = send-not (the-send lim ts roles ground s G inv p q l v)
   call-not (receives p q) = receive-not (the-receive lim ts roles ground s G inv p q)
+
+  -- ---- what is offered
+
+  -- the arms of a send have a least label
+  least-sent : (p q : ℕ) (arms : List ArmAt) → standsAt lim ts roles s p ≡ v-send q arms → Least lim arms (lowestLabel (lim .labels) arms)
+  unfolding rowHolds
+  least-sent p q arms e =
+      let at = sending lim ts roles s (ground .tables) (ground .good) (inv .kept) p q arms e in
+      let h = at .pair .sender-in in
+      let row : rowHolds lim ts roles p (headOf s p) (Send q (at .first) (at .unused)) ≡ true =
+      rw (at .row) at (holds lim ts roles p (λ x i. ground .good p x h i) (headOf s p) (inv .kept .heads-in p h)) in
+      let (link, spare) = both (isPeer roles p q && toArm ts roles p (headOf s p) (at .first)) (eqb (at .unused) 0) row in
+      rw (← (at .same))
+      (least-arm lim ts roles p (λ x i. holds lim ts roles p (λ y j. ground .good p y h j) x i) (headOf s p) (at .first) (inv .kept .heads-in p h)
+      (both (isPeer roles p q) (toArm ts roles p (headOf s p) (at .first)) link .1))
+
+  sent-offers : {p q l v : ℕ} {a : Answer} → SendCase lim ts roles s p q l v a → a .number ≡ LABEL
+      → Allows G (send p q (a .offered) v) × ((m : ℕ) → Allows G (send p q m v) → a .offered ≤ m)
+  sent-offers (send-refused n cannot) e = absurd (plain n .not-label e)
+  sent-offers {p} {q} {l} {v} (send-unknown arms f u) e =
+      let k = lowestLabel (lim .labels) arms in
+      let least = least-sent p q arms f in
+      let (c, sent) = is-found (find k arms) (least .among) in
+      let does : Does (send p q k v) (standsAt lim ts roles s p) c = rw f (does-send {q = q} {arms = arms} sent) in
+      let (G′, step, g) = completeness (viewOf ts roles) (head ts roles) {c = configOf lim roles s} (inv .agrees) (m-send does) in (
+        (G′, step),
+        λ m t. let (c′, d) = allowed-send p q m v t in
+            let (arms′, f′, g′) = of-send d in
+            least .none-lower m (rw (same-send f f′ .1, g′)),
+      )
+  sent-offers (send-accepted c two d room) e = absurd (omega arith)
+
+  send-else : {p q l v : ℕ} {a : Answer} → SendCase lim ts roles s p q l v a → a .number ≢ LABEL → a .offered ≡ lim .labels
+  send-else (send-refused n cannot) e = refl
+  send-else (send-unknown arms f u) e = absurd (e refl)
+  send-else (send-accepted c two d room) e = refl
+
+  receive-else : {p q : ℕ} {a : Answer} → ReceiveCase lim ts roles s p q a → a .offered ≡ lim .labels
+  receive-else (receive-refused n cannot) = refl
+  receive-else (receive-accepted c two d h) = refl
+
+  call-else : (c : Call) → answerTo lim ts roles c s .number ≢ LABEL → answerTo lim ts roles c s .offered ≡ lim .labels
+  unfolding answerTo
+  call-else (sends p q l v) e = send-else (the-send lim ts roles ground s G inv p q l v) e
+  call-else (receives p q) e = receive-else (the-receive lim ts roles ground s G inv p q)
 
   -- ---- who has ended
 
@@ -304,6 +355,8 @@ module _ (lim : Limits) (ts : List ℕ) (roles : ℕ) (ground : Ground lim ts ro
     never-stray = λ p q _. receive-not-stray (the-receive lim ts roles ground s G inv p q);
     never-tables = λ c _. call-not c .0;
     never-state = λ c _. call-not c .1;
+    send-offers = λ p q l v _. sent-offers (the-send lim ts roles ground s G inv p q l v);
+    else-offers = λ c _. call-else c;
     awaited = isAwaited lim ts roles s;
     awaited-exactly = λ r h. (awaited-has-call lim ts roles ground s G inv enough r h, has-call-awaited lim ts roles ground s G inv r);
     awaited-number = rw (ground .tables, state-good lim ts roles s (inv .kept));

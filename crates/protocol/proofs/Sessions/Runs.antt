@@ -6,12 +6,14 @@ use mathlib.Core.List.{List, [], _∷_}
 use mathlib.Core.Logic.{_≢_}
 use mathlib.Core.Option.{some}
 use mathlib.Core.Path.{_≡_, refl, _∙_, ap}
+use native.Mathlib.Omega.{arith}
 use Rattle.table.specs.Limits.{Limits}
 use Rattle.table.specs.Numbers.{ACCEPTED}
 use Rattle.table.specs.Tree.{Global}
 use Rattle.blocks.specs.Block.{partRow, blockRows, isHead}
 use Rattle.blocks.specs.Head.{ArmAt, head, find}
 use Rattle.blocks.specs.Tables.{rowGood, tablesGood}
+use Rattle.state.specs.Numbers.{LABEL}
 use Rattle.session.specs.State.{held, labelAt, payloadAt, moved, taken}
 use Rattle.session.specs.Calls.{sendOf, receiveOf}
 use Rattle.session.specs.declared.Answer.{Answer}
@@ -47,6 +49,7 @@ use Rattle.protocol.proofs.Sessions.Calls.{
   plain,
   SendCase,
   send-refused,
+  send-unknown,
   send-accepted,
   ReceiveCase,
   receive-refused,
@@ -116,6 +119,7 @@ module _ (lim : Limits) (ts : List ℕ) (roles : ℕ) (ground : Ground lim ts ro
 
   send-outcome : (p q l v : ℕ) {a : Answer} → SendCase lim ts roles s p q l v a → Outcome (sends p q l v) a
   send-outcome p q l v (send-refused n cannot) = refused (plain n .not-accepted) refl
+  send-outcome p q l v (send-unknown arms f e) = refused (λ (z : LABEL ≡ ACCEPTED). omega arith) refl
   send-outcome p q l v (send-accepted c two d room) =
       let k = inv .kept in
       let x = head ts roles p c in
