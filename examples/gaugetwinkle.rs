@@ -32,12 +32,12 @@ extern "C" {
         labels: *mut u8, labels_count: usize, payloads: *mut u32, payloads_count: usize,
     ) -> u8;
     fn gaugetwinkle_send(
-        tables: *const u16, words: usize, roles: usize, sender: usize, receiver: usize, label: usize, payload: u32,
+        tables: *const u16, words: usize, roles: usize, sender: usize, receiver: usize, label: usize, payload: u32, offered: *mut u16,
         heads: *mut u16, heads_count: usize, counts: *mut u8, counts_count: usize,
         labels: *mut u8, labels_count: usize, payloads: *mut u32, payloads_count: usize,
     ) -> u8;
     fn gaugetwinkle_receive(
-        tables: *const u16, words: usize, roles: usize, sender: usize, receiver: usize, label: *mut u8, payload: *mut u32,
+        tables: *const u16, words: usize, roles: usize, sender: usize, receiver: usize, label: *mut u8, payload: *mut u32, offered: *mut u16,
         heads: *mut u16, heads_count: usize, counts: *mut u8, counts_count: usize,
         labels: *mut u8, labels_count: usize, payloads: *mut u32, payloads_count: usize,
     ) -> u8;
@@ -86,36 +86,39 @@ pub fn fresh_lent(tables: &[u16], roles: usize, s: Lent) -> u8 {
     }
 }
 
-/// Refused, the state stays as it is.
-pub fn send(tables: &[u16], roles: usize, sender: usize, receiver: usize, label: usize, payload: u32, session: &mut Session) -> u8 {
+/// The number, and what is offered: refused with 16 the lowest label that would be taken, else 64. Refused, the state stays as it is.
+pub fn send(tables: &[u16], roles: usize, sender: usize, receiver: usize, label: usize, payload: u32, session: &mut Session) -> (u8, u16) {
     send_lent(tables, roles, sender, receiver, label, payload, session.lend())
 }
 
-pub fn send_lent(tables: &[u16], roles: usize, sender: usize, receiver: usize, label: usize, payload: u32, s: Lent) -> u8 {
-    unsafe {
-        gaugetwinkle_send(
-            tables.as_ptr(), tables.len(), roles, sender, receiver, label, payload,
-            s.heads.as_mut_ptr(), s.heads.len(), s.counts.as_mut_ptr(), s.counts.len(),
-            s.labels.as_mut_ptr(), s.labels.len(), s.payloads.as_mut_ptr(), s.payloads.len(),
-        )
-    }
-}
-
-/// The number, the label and the payload. Refused, the last two are 0 and the state stays as it is.
-pub fn receive(tables: &[u16], roles: usize, sender: usize, receiver: usize, session: &mut Session) -> (u8, u8, u32) {
-    receive_lent(tables, roles, sender, receiver, session.lend())
-}
-
-pub fn receive_lent(tables: &[u16], roles: usize, sender: usize, receiver: usize, s: Lent) -> (u8, u8, u32) {
-    let (mut label, mut payload) = (0, 0);
+pub fn send_lent(tables: &[u16], roles: usize, sender: usize, receiver: usize, label: usize, payload: u32, s: Lent) -> (u8, u16) {
+    let mut offered = 0;
     let number = unsafe {
-        gaugetwinkle_receive(
-            tables.as_ptr(), tables.len(), roles, sender, receiver, &mut label, &mut payload,
+        gaugetwinkle_send(
+            tables.as_ptr(), tables.len(), roles, sender, receiver, label, payload, &mut offered,
             s.heads.as_mut_ptr(), s.heads.len(), s.counts.as_mut_ptr(), s.counts.len(),
             s.labels.as_mut_ptr(), s.labels.len(), s.payloads.as_mut_ptr(), s.payloads.len(),
         )
     };
-    (number, label, payload)
+    (number, offered)
+}
+
+/// The number, the label, the payload, and what is offered: refused with 19 the lowest label that would be taken, else 64. Refused, label and
+/// payload are 0 and the state stays as it is.
+pub fn receive(tables: &[u16], roles: usize, sender: usize, receiver: usize, session: &mut Session) -> (u8, u8, u32, u16) {
+    receive_lent(tables, roles, sender, receiver, session.lend())
+}
+
+pub fn receive_lent(tables: &[u16], roles: usize, sender: usize, receiver: usize, s: Lent) -> (u8, u8, u32, u16) {
+    let (mut label, mut payload, mut offered) = (0, 0, 0);
+    let number = unsafe {
+        gaugetwinkle_receive(
+            tables.as_ptr(), tables.len(), roles, sender, receiver, &mut label, &mut payload, &mut offered,
+            s.heads.as_mut_ptr(), s.heads.len(), s.counts.as_mut_ptr(), s.counts.len(),
+            s.labels.as_mut_ptr(), s.labels.len(), s.payloads.as_mut_ptr(), s.payloads.len(),
+        )
+    };
+    (number, label, payload, offered)
 }
 
 /// The number and the awaited roles; refused, they are 0, 0 and 8.

@@ -36,18 +36,20 @@ static void open_table(const char *name, const uint16_t *table, size_t length) {
 }
 
 static void say_send(size_t sender, size_t receiver, size_t label, uint32_t payload) {
+    uint16_t offered;
     unsigned number =
-        gaugetwinkle_send(room, ROLES * words, ROLES, sender, receiver, label, payload, GAUGETWINKLE_LEND(&session));
-    printf("send %zu %zu %zu %u", sender, receiver, label, number);
+        gaugetwinkle_send(room, ROLES * words, ROLES, sender, receiver, label, payload, &offered, GAUGETWINKLE_LEND(&session));
+    printf("send %zu %zu %zu %u %u", sender, receiver, label, number, offered);
     say_awaited();
 }
 
 static void say_receive(size_t sender, size_t receiver) {
     uint8_t label;
     uint32_t payload;
-    unsigned number =
-        gaugetwinkle_receive(room, ROLES * words, ROLES, sender, receiver, &label, &payload, GAUGETWINKLE_LEND(&session));
-    printf("receive %zu %zu %u %u %u", sender, receiver, number, label, payload);
+    uint16_t offered;
+    unsigned number = gaugetwinkle_receive(room, ROLES * words, ROLES, sender, receiver, &label, &payload, &offered,
+                                           GAUGETWINKLE_LEND(&session));
+    printf("receive %zu %zu %u %u %u %u", sender, receiver, number, label, payload, offered);
     say_awaited();
 }
 
@@ -61,6 +63,7 @@ int main(void) {
     say_send(2, 0, 1, 7); /* guest 2 votes before it is asked: TURN, and nothing is lost */
     say_send(0, 1, 0, 0);
     say_receive(0, 1);
+    say_send(1, 0, 2, 5); /* no vote has the label 2: LABEL, and the label 1 is offered */
     say_send(1, 0, 1, 5);
     say_receive(1, 0);
     say_send(0, 2, 0, 0);

@@ -43,14 +43,14 @@ impl Story {
     }
 
     fn send(&mut self, sender: usize, receiver: usize, label: usize, payload: u32) {
-        let number = send(&self.tables, ROLES, sender, receiver, label, payload, &mut self.session);
-        print!("send {sender} {receiver} {label} {number}");
+        let (number, offered) = send(&self.tables, ROLES, sender, receiver, label, payload, &mut self.session);
+        print!("send {sender} {receiver} {label} {number} {offered}");
         self.say_awaited();
     }
 
     fn receive(&mut self, sender: usize, receiver: usize) {
-        let (number, label, payload) = receive(&self.tables, ROLES, sender, receiver, &mut self.session);
-        print!("receive {sender} {receiver} {number} {label} {payload}");
+        let (number, label, payload, offered) = receive(&self.tables, ROLES, sender, receiver, &mut self.session);
+        print!("receive {sender} {receiver} {number} {label} {payload} {offered}");
         self.say_awaited();
     }
 }
@@ -67,6 +67,7 @@ fn main() {
     story.send(2, 0, 1, 7); // guest 2 votes before it is asked: TURN, and nothing is lost
     story.send(0, 1, 0, 0);
     story.receive(0, 1);
+    story.send(1, 0, 2, 5); // no vote has the label 2: LABEL, and the label 1 is offered
     story.send(1, 0, 1, 5);
     story.receive(1, 0);
     story.send(0, 2, 0, 0);

@@ -5,7 +5,7 @@
  *
  * - A slice is a pointer and a length in elements. The pointer is aligned for its type and leads to so many elements; where the
  *   length is 0 it may be NULL or lead anywhere, and is not followed.
- * - A place for an answer (place, label, payload, set, count, lowest) is never NULL and is aligned. Each call writes all of its
+ * - A place for an answer (place, label, payload, offered, set, count, lowest) is never NULL and is aligned. Each call writes all of its
  *   places, refused or not, and reads none of them.
  * - What a call writes overlaps nothing else that it is given: the room, each place for an answer, and in fresh, send and receive
  *   the four slices of the state. Slices that are only read (table, tables, the state in awaited) may overlap each other.
@@ -74,13 +74,15 @@ uint8_t gaugetwinkle_open(const uint16_t *table, size_t words, size_t roles, uin
  * 12 too; only they are refused with 13. */
 uint8_t gaugetwinkle_fresh(const uint16_t *tables, size_t words, size_t roles, GAUGETWINKLE_LENT);
 
-/* Refused, the state stays as it is. */
+/* Refused, the state stays as it is. Refused with 16, *offered is the lowest label that the sender may send to the receiver; in every
+ * other answer, accepted too, it is GAUGETWINKLE_LABELS. */
 uint8_t gaugetwinkle_send(const uint16_t *tables, size_t words, size_t roles, size_t sender, size_t receiver, size_t label,
-                          uint32_t payload, GAUGETWINKLE_LENT);
+                          uint32_t payload, uint16_t *offered, GAUGETWINKLE_LENT);
 
-/* The message goes to *label and *payload. Refused, they are 0 and the state stays as it is. */
+/* The message goes to *label and *payload. Refused, they are 0 and the state stays as it is. Refused with 19, *offered is the lowest
+ * label that the receiver takes from the sender; in every other answer it is GAUGETWINKLE_LABELS. */
 uint8_t gaugetwinkle_receive(const uint16_t *tables, size_t words, size_t roles, size_t sender, size_t receiver, uint8_t *label,
-                             uint32_t *payload, GAUGETWINKLE_LENT);
+                             uint32_t *payload, uint16_t *offered, GAUGETWINKLE_LENT);
 
 /* The awaited roles: role r is the bit 1 << r of *set; how many; the lowest, or 8. Refused, they are 0, 0 and 8. */
 uint8_t gaugetwinkle_awaited(const uint16_t *tables, size_t words, size_t roles, uint8_t *set, uint32_t *count, uint32_t *lowest,

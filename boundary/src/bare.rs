@@ -15,12 +15,13 @@ extern "C" {
         labels: *mut u8, labels_count: usize, payloads: *mut u32, payloads_count: usize,
     ) -> u8;
     fn gaugetwinkle_send(
-        tables: *const u16, words: usize, roles: usize, sender: usize, receiver: usize, label: usize, payload: u32,
+        tables: *const u16, words: usize, roles: usize, sender: usize, receiver: usize, label: usize, payload: u32, offered: *mut u16,
         heads: *mut u16, heads_count: usize, counts: *mut u8, counts_count: usize,
         labels: *mut u8, labels_count: usize, payloads: *mut u32, payloads_count: usize,
     ) -> u8;
     fn gaugetwinkle_receive(
         tables: *const u16, words: usize, roles: usize, sender: usize, receiver: usize, label: *mut u8, payload: *mut u32,
+        offered: *mut u16,
         heads: *mut u16, heads_count: usize, counts: *mut u8, counts_count: usize,
         labels: *mut u8, labels_count: usize, payloads: *mut u32, payloads_count: usize,
     ) -> u8;
@@ -62,26 +63,28 @@ pub fn fresh(tables: &[u16], roles: usize, s: Lent) -> u8 {
 
 pub fn send(
     tables: &[u16], roles: usize, sender: usize, receiver: usize, label: usize, payload: u32, s: Lent,
-) -> u8 {
-    unsafe {
-        gaugetwinkle_send(
-            start(tables), tables.len(), roles, sender, receiver, label, payload,
-            start_mut(s.heads), s.heads.len(), start_mut(s.counts), s.counts.len(),
-            start_mut(s.labels), s.labels.len(), start_mut(s.payloads), s.payloads.len(),
-        )
-    }
-}
-
-pub fn receive(tables: &[u16], roles: usize, sender: usize, receiver: usize, s: Lent) -> (u8, u8, u32) {
-    let (mut label, mut payload) = (BEFORE, u32::from(BEFORE));
+) -> (u8, u16) {
+    let mut offered = u16::from(BEFORE);
     let number = unsafe {
-        gaugetwinkle_receive(
-            start(tables), tables.len(), roles, sender, receiver, &mut label, &mut payload,
+        gaugetwinkle_send(
+            start(tables), tables.len(), roles, sender, receiver, label, payload, &mut offered,
             start_mut(s.heads), s.heads.len(), start_mut(s.counts), s.counts.len(),
             start_mut(s.labels), s.labels.len(), start_mut(s.payloads), s.payloads.len(),
         )
     };
-    (number, label, payload)
+    (number, offered)
+}
+
+pub fn receive(tables: &[u16], roles: usize, sender: usize, receiver: usize, s: Lent) -> (u8, u8, u32, u16) {
+    let (mut label, mut payload, mut offered) = (BEFORE, u32::from(BEFORE), u16::from(BEFORE));
+    let number = unsafe {
+        gaugetwinkle_receive(
+            start(tables), tables.len(), roles, sender, receiver, &mut label, &mut payload, &mut offered,
+            start_mut(s.heads), s.heads.len(), start_mut(s.counts), s.counts.len(),
+            start_mut(s.labels), s.labels.len(), start_mut(s.payloads), s.payloads.len(),
+        )
+    };
+    (number, label, payload, offered)
 }
 
 pub fn awaited(

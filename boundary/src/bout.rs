@@ -144,9 +144,9 @@ impl Bout {
         let mut sum = 0;
         for _ in 0..calls {
             let mut session = black_box(&self.ours).clone();
-            let number =
+            let (number, offered) =
                 gaugetwinkle::send(&self.tables, self.roles, SENDER, RECEIVER, LABEL, PAYLOAD, &mut session);
-            sum += u64::from(number) + u64::from(black_box(&session).heads[SENDER]);
+            sum += u64::from(number) + u64::from(offered) + u64::from(black_box(&session).heads[SENDER]);
         }
         sum
     }
@@ -154,8 +154,9 @@ impl Bout {
     fn send_second(&self, calls: u64) -> u64 {
         let mut sum = 0;
         for _ in 0..calls {
-            let (number, session) = sent(black_box(&self.second).clone(), &self.tables, self.roles);
-            sum += u64::from(number) + u64::from(black_box(&session).heads[SENDER]);
+            let (sent, session) = sent(black_box(&self.second).clone(), &self.tables, self.roles);
+            sum += u64::from(sent.number) + u64::from(sent.offered);
+            sum += u64::from(black_box(&session).heads[SENDER]);
         }
         sum
     }
@@ -164,9 +165,9 @@ impl Bout {
         let mut sum = 0;
         for _ in 0..calls {
             let mut session = black_box(&self.ours).clone();
-            let (number, label, payload) =
+            let (number, label, payload, offered) =
                 gaugetwinkle::receive(&self.tables, self.roles, SENDER, RECEIVER, &mut session);
-            sum += u64::from(number) + u64::from(label) + u64::from(payload);
+            sum += u64::from(number) + u64::from(label) + u64::from(payload) + u64::from(offered);
             sum += u64::from(black_box(&session).heads[RECEIVER]);
         }
         sum
@@ -179,6 +180,7 @@ impl Bout {
             let (received, session) =
                 session.receive(&self.tables, self.roles as u32, SENDER as u32, RECEIVER as u32);
             sum += u64::from(received.number) + u64::from(received.label) + u64::from(received.payload);
+            sum += u64::from(received.offered);
             sum += u64::from(black_box(&session).heads[RECEIVER]);
         }
         sum
@@ -205,7 +207,7 @@ impl Bout {
     }
 }
 
-fn sent(session: second::Session, tables: &[u16], roles: usize) -> (u8, second::Session) {
+fn sent(session: second::Session, tables: &[u16], roles: usize) -> (second::Sent, second::Session) {
     session.send(tables, roles as u32, SENDER as u32, RECEIVER as u32, LABEL as u32, PAYLOAD)
 }
 

@@ -82,7 +82,7 @@ pub struct Case {
     pub memory: Memory,
 }
 
-/// What a call answers, and the memory afterwards. The values are place, or label and payload, or set, count and lowest;
+/// What a call answers, and the memory afterwards. The values are place, or what is offered, or label, payload and what is offered, or set, count and lowest;
 /// the others are 0.
 #[derive(Clone, Debug, PartialEq, Eq)]
 pub struct Outcome {

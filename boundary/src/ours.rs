@@ -16,8 +16,8 @@ pub enum Way {
 
 type Open = fn(&[u16], usize, &mut [u16]) -> (u8, usize);
 type Fresh = fn(&[u16], usize, Lent) -> u8;
-type Send = fn(&[u16], usize, usize, usize, usize, u32, Lent) -> u8;
-type Receive = fn(&[u16], usize, usize, usize, Lent) -> (u8, u8, u32);
+type Send = fn(&[u16], usize, usize, usize, usize, u32, Lent) -> (u8, u16);
+type Receive = fn(&[u16], usize, usize, usize, Lent) -> (u8, u8, u32, u16);
 type AwaitedCall = fn(&[u16], usize, &[u16], &[u8], &[u8], &[u32]) -> Awaited;
 
 /// The five calls of one way.
@@ -103,11 +103,12 @@ impl Buffers {
         match call {
             Call::Open | Call::Fresh => ((calls.fresh)(tables, roles, lent), [0; 3]),
             Call::Send { sender, receiver, label, payload } => {
-                ((calls.send)(tables, roles, sender, receiver, label, payload, lent), [0; 3])
+                let (number, offered) = (calls.send)(tables, roles, sender, receiver, label, payload, lent);
+                (number, [usize::from(offered), 0, 0])
             }
             Call::Receive { sender, receiver } => {
-                let (number, label, payload) = (calls.receive)(tables, roles, sender, receiver, lent);
-                (number, [usize::from(label), payload as usize, 0])
+                let (number, label, payload, offered) = (calls.receive)(tables, roles, sender, receiver, lent);
+                (number, [usize::from(label), payload as usize, usize::from(offered)])
             }
             Call::Awaited => {
                 let Lent { heads, counts, labels, payloads } = lent;

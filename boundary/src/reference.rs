@@ -2,7 +2,7 @@
 
 use crate::case::{Call, Case, Memory, Outcome, State};
 use second::blocks::Blocks;
-use second::limits::MOST_ROLES;
+use second::limits::{MOST_ROLES, NO_LABEL};
 use second::numbers::{STATE, TABLES};
 use second::Session;
 
@@ -31,8 +31,13 @@ pub fn narrow(number: usize) -> u32 {
 /// Slices of other lengths are no well-formed state: 13, behind 12; they stay as they are.
 fn wrong_lengths(case: &Case, roles: u32) -> Outcome {
     let number = if Blocks::read(&case.tables, roles).is_some() { STATE } else { TABLES };
-    let lowest = if case.call == Call::Awaited { MOST_ROLES } else { 0 };
-    Outcome { number, values: [0, 0, lowest], memory: case.memory.clone() }
+    let values = match case.call {
+        Call::Open | Call::Fresh => [0; 3],
+        Call::Send { .. } => [usize::from(NO_LABEL), 0, 0],
+        Call::Receive { .. } => [0, 0, usize::from(NO_LABEL)],
+        Call::Awaited => [0, 0, MOST_ROLES],
+    };
+    Outcome { number, values, memory: case.memory.clone() }
 }
 
 fn over_session(case: &Case, roles: u32, session: Session) -> (u8, [usize; 3], Session) {
@@ -43,13 +48,14 @@ fn over_session(case: &Case, roles: u32, session: Session) -> (u8, [usize; 3], S
             (number, [0; 3], session)
         }
         Call::Send { sender, receiver, label, payload } => {
-            let (number, session) =
+            let (sent, session) =
                 session.send(tables, roles, narrow(sender), narrow(receiver), narrow(label), payload);
-            (number, [0; 3], session)
+            (sent.number, [usize::from(sent.offered), 0, 0], session)
         }
         Call::Receive { sender, receiver } => {
             let (received, session) = session.receive(tables, roles, narrow(sender), narrow(receiver));
-            (received.number, [usize::from(received.label), received.payload as usize, 0], session)
+            let values = [usize::from(received.label), received.payload as usize, usize::from(received.offered)];
+            (received.number, values, session)
         }
         Call::Awaited => {
             let answer = session.awaited(tables, roles);

@@ -60,16 +60,16 @@ module _ (ts : List ℕ) (roles : ℕ) (h c l p : List ℕ) where
     made-whole : isState base h c l p ≡ true → a ≡ call (lent h c l p)
     made-whole e = ea ∙ ap (givenCall base ts roles call) (eg ∙ read-whole e)
 
-    made-none : isState base h c l p ≡ false → a ≡ answers (wrongNumber base ts roles) (givenOf base h c l p .state)
+    made-none : isState base h c l p ≡ false → a ≡ answers base (wrongNumber base ts roles) (givenOf base h c l p .state)
     made-none e = ea ∙ (ap (givenCall base ts roles call) eg ∙ rw e)
 
     said-by : (b : Bool) → isState base h c l p ≡ b → let w = lentCall base ts roles call h c l p in
-        (a .number ≡ w .number) × (a .label ≡ w .label) × (a .payload ≡ w .payload)
+        (a .offered ≡ w .offered) × (a .label ≡ w .label) × (a .payload ≡ w .payload)
     said-by true e = rw (e, made-whole e) (refl, refl, refl)
     said-by false e = rw (e, made-none e) (refl, refl, refl)
 
-    -- the answer's number, label and payload
-    pub said : let w = lentCall base ts roles call h c l p in (a .number ≡ w .number) × (a .label ≡ w .label) × (a .payload ≡ w .payload)
+    -- what the answer offers, its label and its payload
+    pub said : let w = lentCall base ts roles call h c l p in (a .offered ≡ w .offered) × (a .label ≡ w .label) × (a .payload ≡ w .payload)
     said = said-by (isState base h c l p) refl
 
     module _ (h' c' l' p' : List ℕ) (eh : h' ≡ replaced 8 (a .state .heads) h) (ec : c' ≡ replaced 64 (a .state .counts) c)

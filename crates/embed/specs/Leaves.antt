@@ -12,10 +12,10 @@ use Rattle.embed.specs.Lent.{freshLent, sendLent, receiveLent, awaitedLe
 pub record RefusedLeaves (lim : Limits) : Type 0 where
   -- a fresh state for bad tables is all zeros; slices of other lengths are left as they are
   pub fresh : (tables : List ℕ) (roles : ℕ) (heads counts labels payloads : List ℕ)
-      → HandsBack (cond (isState lim heads counts labels payloads) (nothing lim) (lent heads counts labels payloads)) (freshLent lim tables roles heads counts labels payloads)
+      → HandsBack lim (cond (isState lim heads counts labels payloads) (nothing lim) (lent heads counts labels payloads)) (freshLent lim tables roles heads counts labels payloads)
   pub send : (tables : List ℕ) (roles sender receiver label payload : ℕ) (heads counts labels payloads : List ℕ)
-      → HandsBack (lent heads counts labels payloads) (sendLent lim tables roles sender receiver label payload heads counts labels payloads)
+      → HandsBack lim (lent heads counts labels payloads) (sendLent lim tables roles sender receiver label payload heads counts labels payloads)
   pub receive : (tables : List ℕ) (roles sender receiver : ℕ) (heads counts labels payloads : List ℕ)
-      → HandsBack (lent heads counts labels payloads) (receiveLent lim tables roles sender receiver heads counts labels payloads)
+      → HandsBack lim (lent heads counts labels payloads) (receiveLent lim tables roles sender receiver heads counts labels payloads)
   pub awaited : (tables : List ℕ) (roles : ℕ) (heads counts labels payloads : List ℕ)
       → NamesNobody lim (awaitedLent lim tables roles heads counts labels payloads)

@@ -22,7 +22,7 @@ abbrev pub lentCall : Limits → List ℕ → ℕ → (Session → Answer) → L
 lentCall lim ts roles call heads counts labels payloads =
     let s = lent heads counts labels payloads in
     cond (isState lim heads counts labels payloads) (call s)
-    (answers (wrongNumber lim ts roles) s)
+    (answers lim (wrongNumber lim ts roles) s)
 
 -- a fresh state in lent slices
 abbrev pub freshLent : Limits → List ℕ → ℕ → List ℕ → List ℕ → List ℕ → List ℕ → Answer
@@ -42,9 +42,14 @@ pub record Handed (a : Answer) (number : ℕ) (heads counts labels payloads : Li
   pub labels-are : labels ≡ a .state .labels
   pub payloads-are : payloads ≡ a .state .payloads
 
--- an answer of a receive handed over: label and payload besides
-pub record Delivered (a : Answer) (number label payload : ℕ) (heads counts labels payloads : List ℕ) : Type 0 where
+-- an answer of a send handed over: what it offers besides
+pub record Answered (a : Answer) (number offered : ℕ) (heads counts labels payloads : List ℕ) : Type 0 where
   pub handed : Handed a number heads counts labels payloads
+  pub offered-is : offered ≡ a .offered
+
+-- an answer of a receive handed over: label and payload too
+pub record Delivered (a : Answer) (number label payload offered : ℕ) (heads counts labels payloads : List ℕ) : Type 0 where
+  pub answered : Answered a number offered heads counts labels payloads
   pub label-is : label ≡ a .label
   pub payload-is : payload ≡ a .payload
 

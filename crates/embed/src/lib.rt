@@ -5,7 +5,7 @@ ghost use Rattle.table.specs.Limits.{base};
 ghost use Rattle.table.specs.Check.{says};
 ghost use Rattle.opening.specs.Opening.{Opens};
 ghost use Rattle.session.specs.Calls.{answers, freshOf, sendOf, receiveOf};
-ghost use Rattle.embed.specs.Lent.{wrongNumber, freshLent, sendLent, receiveLent, awaitedLent, Handed, Delivered, Told};
+ghost use Rattle.embed.specs.Lent.{wrongNumber, freshLent, sendLent, receiveLent, awaitedLent, Handed, Answered, Delivered, Told};
 ghost use Rattle.embed.specs.mirror.Given.{givenCall};
 use blocks::tables;
 use lent::Given;
@@ -26,7 +26,7 @@ fn wrong_number(tables: &[u16], roles: usize) -> u8
 
 // The answer for slices that are no state: what was read in stays.
 fn refused(state: Session, tables: &[u16], roles: usize) -> Answer
-    ensures { λ r. ⌜ r ≡ answers (wrongNumber base (now (tables .entry)) roles) state ⌝ }
+    ensures { λ r. ⌜ r ≡ answers base (wrongNumber base (now (tables .entry)) roles) state ⌝ }
 {
     Answer::of(wrong_number(tables, roles), state)
 }
@@ -103,7 +103,7 @@ pub extern "C" fn gaugetwinkle_fresh(
     answer.number
 }
 
-// A send.
+// A send; what it offers goes to `offered`.
 #[no_mangle]
 pub extern "C" fn gaugetwinkle_send(
     tables: &[u16],
@@ -112,21 +112,23 @@ pub extern "C" fn gaugetwinkle_send(
     receiver: usize,
     label: usize,
     payload: u32,
+    offered: &mut u16,
     heads: &mut [u16],
     counts: &mut [u8],
     labels: &mut [u8],
     payloads: &mut [u32],
 ) -> u8
-    ensures { λ r. ⌜ Handed (sendLent base (now (tables .entry)) roles sender receiver label payload (now (heads .entry)) (now (counts .entry)) (now (labels .entry)) (now (payloads .entry)))
-        r (now (heads .exit)) (now (counts .exit)) (now (labels .exit)) (now (payloads .exit)) ⌝ }
+    ensures { λ r. ⌜ Answered (sendLent base (now (tables .entry)) roles sender receiver label payload (now (heads .entry)) (now (counts .entry)) (now (labels .entry)) (now (payloads .entry)))
+        r (now (offered .exit)) (now (heads .exit)) (now (counts .exit)) (now (labels .exit)) (now (payloads .exit)) ⌝ }
 {
     let given = lent::read_in(heads, counts, labels, payloads);
     let answer = sent(given, tables, roles, sender, receiver, label, payload);
+    *offered = answer.offered;
     lent::put_back(answer.state, heads, counts, labels, payloads);
     answer.number
 }
 
-// A receive; its label and payload go to `label` and `payload`.
+// A receive; its label, its payload and what it offers go to `label`, `payload` and `offered`.
 #[no_mangle]
 pub extern "C" fn gaugetwinkle_receive(
     tables: &[u16],
@@ -135,18 +137,20 @@ pub extern "C" fn gaugetwinkle_receive(
     receiver: usize,
     label: &mut u8,
     payload: &mut u32,
+    offered: &mut u16,
     heads: &mut [u16],
     counts: &mut [u8],
     labels: &mut [u8],
     payloads: &mut [u32],
 ) -> u8
     ensures { λ r. ⌜ Delivered (receiveLent base (now (tables .entry)) roles sender receiver (now (heads .entry)) (now (counts .entry)) (now (labels .entry)) (now (payloads .entry)))
-        r (now (label .exit)) (now (payload .exit)) (now (heads .exit)) (now (counts .exit)) (now (labels .exit)) (now (payloads .exit)) ⌝ }
+        r (now (label .exit)) (now (payload .exit)) (now (offered .exit)) (now (heads .exit)) (now (counts .exit)) (now (labels .exit)) (now (payloads .exit)) ⌝ }
 {
     let given = lent::read_in(heads, counts, labels, payloads);
     let answer = received(given, tables, roles, sender, receiver);
     *label = answer.label;
     *payload = answer.payload;
+    *offered = answer.offered;
     lent::put_back(answer.state, heads, counts, labels, payloads);
     answer.number
 }

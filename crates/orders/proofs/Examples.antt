@@ -6,7 +6,7 @@ use Rattle.words.specs.Below.{lowest, every, any, sum}
 use Rattle.table.specs.Limits.{base}
 use Rattle.table.specs.Above.{times, over, chainOver, hasLabel}
 use Rattle.table.specs.Rules.{breaks}
-use Rattle.blocks.specs.Head.{find, chain}
+use Rattle.blocks.specs.Head.{find, lowestLabel, chain}
 use Rattle.opening.specs.Marked.{t1}
 use Rattle.opening.specs.Opening.{openOf, blocks}
 use Rattle.session.specs.Calls.{freshOf, sendOf, receiveOf}
@@ -26,18 +26,18 @@ told k ((letter ∷ ns) ∷ os) = let r = orderOf base k letter ns in r .numbers
 
 -- "s 0 1 5 7", "r 0 1", "f" without tables
 without : told (atFirst base) ((115 ∷ 0 ∷ 1 ∷ 5 ∷ 7 ∷ []) ∷ (114 ∷ 0 ∷ 1 ∷ []) ∷ (102 ∷ []) ∷ [])
-    ≡ (12 ∷ 0 ∷ 0 ∷ 8 ∷ []) ∷ (12 ∷ 0 ∷ 0 ∷ 0 ∷ 0 ∷ 8 ∷ []) ∷ (12 ∷ 0 ∷ 0 ∷ 0 ∷ 0 ∷ 0 ∷ 0 ∷ 0 ∷ 0 ∷ []) ∷ []
+    ≡ (12 ∷ 64 ∷ 0 ∷ 0 ∷ 8 ∷ []) ∷ (12 ∷ 0 ∷ 0 ∷ 64 ∷ 0 ∷ 0 ∷ 8 ∷ []) ∷ (12 ∷ 0 ∷ 0 ∷ 0 ∷ 0 ∷ 0 ∷ 0 ∷ 0 ∷ 0 ∷ []) ∷ []
 unfolding told orderOf callOrder isCall sent received freshened freshOf awaitedOf sendOf receiveOf
 without = refl
 
--- T1 opened, "f", "s 0 1 5 7" twice, "r 0 1" twice
+-- T1 opened, "f", "s 0 1 6 7", which is offered 5, "s 0 1 5 7" twice, "r 0 1" twice
 story : told (atFirst base) (
-    (111 ∷ 2 ∷ 24 ∷ t1) ∷ (102 ∷ []) ∷ (115 ∷ 0 ∷ 1 ∷ 5 ∷ 7 ∷ []) ∷ (115 ∷ 0 ∷ 1 ∷ 5 ∷ 7 ∷ []) ∷ (114 ∷ 0 ∷ 1 ∷ []) ∷ (114 ∷ 0 ∷ 1 ∷ [])
-    ∷ [])
+    (111 ∷ 2 ∷ 24 ∷ t1) ∷ (102 ∷ []) ∷ (115 ∷ 0 ∷ 1 ∷ 6 ∷ 7 ∷ []) ∷ (115 ∷ 0 ∷ 1 ∷ 5 ∷ 7 ∷ []) ∷ (115 ∷ 0 ∷ 1 ∷ 5 ∷ 7 ∷ []) ∷ (114 ∷ 0 ∷ 1 ∷ [])
+    ∷ (114 ∷ 0 ∷ 1 ∷ []) ∷ [])
     ≡ (0 ∷ 0 ∷ 5 ∷ 1 ∷ 1 ∷ 0 ∷ 2 ∷ 5 ∷ 2 ∷ 0 ∷ 0 ∷ 0 ∷ 0 ∷ 0 ∷ 6 ∷ 0 ∷ 1 ∷ 0 ∷ 2 ∷ 5 ∷ 2 ∷ 0 ∷ 0 ∷ 0 ∷ 0 ∷ 0 ∷ [])
-    ∷ (0 ∷ 0 ∷ 0 ∷ 0 ∷ 0 ∷ 0 ∷ 0 ∷ 0 ∷ 0 ∷ []) ∷ (0 ∷ 2 ∷ 1 ∷ 1 ∷ []) ∷ (15 ∷ 2 ∷ 1 ∷ 1 ∷ []) ∷ (0 ∷ 5 ∷ 7 ∷ 0 ∷ 0 ∷ 8 ∷ [])
-    ∷ (15 ∷ 0 ∷ 0 ∷ 0 ∷ 0 ∷ 8 ∷ []) ∷ []
-unfolding told orderOf openOrder opened callOrder isCall sent received freshened freshOf awaitedOf sendOf receiveOf allBelow openOf lowest breaks sum times hasLabel chainOver over blocks every any find chain
+    ∷ (0 ∷ 0 ∷ 0 ∷ 0 ∷ 0 ∷ 0 ∷ 0 ∷ 0 ∷ 0 ∷ []) ∷ (16 ∷ 5 ∷ 1 ∷ 1 ∷ 0 ∷ []) ∷ (0 ∷ 64 ∷ 2 ∷ 1 ∷ 1 ∷ []) ∷ (15 ∷ 64 ∷ 2 ∷ 1 ∷ 1 ∷ [])
+    ∷ (0 ∷ 5 ∷ 7 ∷ 64 ∷ 0 ∷ 0 ∷ 8 ∷ []) ∷ (15 ∷ 0 ∷ 0 ∷ 64 ∷ 0 ∷ 0 ∷ 8 ∷ []) ∷ []
+unfolding told orderOf openOrder opened callOrder isCall sent received freshened freshOf awaitedOf sendOf receiveOf allBelow openOf lowest breaks sum times hasLabel chainOver over blocks every any find lowestLabel chain
 story = refl
 
 -- T1 opened, then refused for its room: no tables are left for "f"

@@ -62,11 +62,11 @@ module _ (run : Run) (ws ts : List ℕ) (s : Session) (w : Awaiting) (e : ts ≡
   hand-reply = rw awaited-is
 
 module _ (run : Run) (ws ts : List ℕ) (a : Answer) (w : Awaiting) (e : ts ≡ take (run .words) ws) (f : w ≡ awaitedOf base ts (run .roles) (a .state)) where
-  pub sent-reply : says (saidOf run 4 (padded (a .number ∷ w .set ∷ w .count ∷ w .lowest ∷ [])) (a .state)) ws ≡ sent base (keeps run ws) a
+  pub sent-reply : says (saidOf run 5 (padded (a .number ∷ a .offered ∷ w .set ∷ w .count ∷ w .lowest ∷ [])) (a .state)) ws ≡ sent base (keeps run ws) a
   unfolding sent
   sent-reply = rw (awaited-is run ws ts (a .state) w e f)
 
-  pub received-reply : says (saidOf run 6 (padded (a .number ∷ a .label ∷ a .payload ∷ w .set ∷ w .count ∷ w .lowest ∷ [])) (a .state)) ws
+  pub received-reply : says (saidOf run 7 (padded (a .number ∷ a .label ∷ a .payload ∷ a .offered ∷ w .set ∷ w .count ∷ w .lowest ∷ [])) (a .state)) ws
       ≡ received base (keeps run ws) a
   unfolding received
   received-reply = rw (awaited-is run ws ts (a .state) w e f)

@@ -111,14 +111,14 @@ freshened lim k =
 unfoldable pub handed : Limits → Kept → Session → Reply
 handed lim k s = record { numbers = awaitedIn lim k s .number ∷ awaited (awaitedIn lim k s); kept = calls k s }
 
--- point 14: a send is answered with its number and the awaited roles after it
+-- point 14: a send is answered with its number, what it offers and the awaited roles after it
 unfoldable pub sent : Limits → Kept → Answer → Reply
-sent lim k a = record { numbers = a .number ∷ awaited (awaitedIn lim k (a .state)); kept = calls k (a .state) }
+sent lim k a = record { numbers = a .number ∷ a .offered ∷ awaited (awaitedIn lim k (a .state)); kept = calls k (a .state) }
 
--- point 14: and a receive with its label and payload between the two
+-- point 14: and a receive with its label and payload behind its number
 unfoldable pub received : Limits → Kept → Answer → Reply
 received lim k a =
-    record { numbers = a .number ∷ a .label ∷ a .payload ∷ awaited (awaitedIn lim k (a .state)); kept = calls k (a .state) }
+    record { numbers = a .number ∷ a .label ∷ a .payload ∷ a .offered ∷ awaited (awaitedIn lim k (a .state)); kept = calls k (a .state) }
 
 -- point 6: how many numbers a call has; `f`, `h`, `s` and `r` are the bytes 102, 104, 115 and 114
 unfoldable pub isCall : Limits → ℕ → List ℕ → Bool

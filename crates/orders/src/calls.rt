@@ -47,7 +47,7 @@ fn hand(run: Run, state: Session, words: &[u16]) -> Said
     run::called(run, 4, told, state)
 }
 
-// A send's number, and the awaited roles after it.
+// A send's number, what it offers, and the awaited roles after it.
 fn sent(run: Run, answer: Answer, words: &[u16]) -> Said
     ensures { λ r. ⌜ Says r (now (words .entry)) (sent base (keeps run (now (words .entry))) answer) ⌝ }
 {
@@ -55,10 +55,11 @@ fn sent(run: Run, answer: Answer, words: &[u16]) -> Said
     let waiting = after.awaited(read::first(words, run.words), run.roles);
     let mut told = [0u32; TOLD];
     told[0] = answer.number as u32;
-    told[1] = waiting.set as u32;
-    told[2] = waiting.count;
-    told[3] = waiting.lowest;
-    run::called(run, 4, told, after)
+    told[1] = answer.offered as u32;
+    told[2] = waiting.set as u32;
+    told[3] = waiting.count;
+    told[4] = waiting.lowest;
+    run::called(run, 5, told, after)
 }
 
 // `s SENDER RECEIVER LABEL PAYLOAD`
@@ -77,7 +78,7 @@ fn send(run: Run, numbers: &[u32], words: &[u16]) -> Said
     sent(run, answer, words)
 }
 
-// A receive's number and message, and the awaited roles after it.
+// A receive's number and message, what it offers, and the awaited roles after it.
 fn received(run: Run, answer: Answer, words: &[u16]) -> Said
     ensures { λ r. ⌜ Says r (now (words .entry)) (received base (keeps run (now (words .entry))) answer) ⌝ }
 {
@@ -87,10 +88,11 @@ fn received(run: Run, answer: Answer, words: &[u16]) -> Said
     told[0] = answer.number as u32;
     told[1] = answer.label as u32;
     told[2] = answer.payload;
-    told[3] = waiting.set as u32;
-    told[4] = waiting.count;
-    told[5] = waiting.lowest;
-    run::called(run, 6, told, state)
+    told[3] = answer.offered as u32;
+    told[4] = waiting.set as u32;
+    told[5] = waiting.count;
+    told[6] = waiting.lowest;
+    run::called(run, 7, told, state)
 }
 
 // `r SENDER RECEIVER`

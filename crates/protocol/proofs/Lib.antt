@@ -11,4 +11,5 @@ pub mod Stranded
 pub mod Alike
 pub mod Promised
 pub mod Refused
+pub mod Offered
 pub mod ShutOut

@@ -8,5 +8,6 @@ pub mod Stranded
 pub mod Fits
 pub mod Promised
 pub mod Refused
+pub mod Offered
 pub mod ShutOut
 pub mod Stories

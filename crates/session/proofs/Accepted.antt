@@ -92,17 +92,17 @@ is-found (some c) e = (c, refl)
 pair-of : (roles p q : ℕ) → p < roles → q < roles → (p ≡ q → ⊥) → arePair roles p q ≡ true
 pair-of roles p q a b n = rw (lt-ltb p roles a, lt-ltb q roles b, ne-eqb p q n)
 
-module _ (ts : List ℕ) (roles : ℕ) (s : Session) (good : tablesGood base ts roles ≡ true) (judged : stateGood base ts roles s ≡ true) where
+module _ (ts : List ℕ) (roles : ℕ) (s : Session) (good : tablesGood base ts roles ≡ true) (standing : stateGood base ts roles s ≡ true) where
   send-goes : (p q l v f x c : ℕ) → arePair roles p q ≡ true → partRow ts roles p (headOf s p) ≡ Send q f x → find l (armsOf ts roles p f) ≡ some c
       → held base s p q < 4 → sendOf base ts roles p q l v s .number ≡ 0
   unfolding sendOf sendAt sendArm
-  send-goes p q l v f x c two row found room = rw (good, judged, two, row, eq-eqb q q refl, found, lt-leb 4 (held base s p q) room)
+  send-goes p q l v f x c two row found room = rw (good, standing, two, row, eq-eqb q q refl, found, lt-leb 4 (held base s p q) room)
 
   receive-goes : (p q f x c : ℕ) → arePair roles p q ≡ true → partRow ts roles q (headOf s q) ≡ Receive p f x → find (labelAt base s p q 0) (armsOf ts roles q f) ≡ some c
       → 0 < held base s p q → receiveOf base ts roles p q s .number ≡ 0
   unfolding receiveOf receiveAt receiveArm
   receive-goes p q f x c two row found some-held =
-      rw (good, judged, two, row, eq-eqb p p refl, ne-eqb (held base s p q) 0 (omega arith), found)
+      rw (good, standing, two, row, eq-eqb p p refl, ne-eqb (held base s p q) 0 (omega arith), found)
 
   module _ (r : ℕ) (present : r < roles) where
     -- by the head's row
@@ -134,7 +134,7 @@ module _ (ts : List ℕ) (roles : ℕ) (s : Session) (good : tablesGood base ts 
     pub awaited-acts : isAwaited base ts roles s r ≡ true → HasCall ts roles s r
     awaited-acts t =
         let b = sized-bounds ts roles (blockRows ts roles) (good-sized ts roles good) in
-        let hs = head-stands ts roles (listed s) judged r present (omega (arith, b .1)) in
+        let hs = head-stands ts roles (listed s) standing r present (omega (arith, b .1)) in
         row-acts (partRow ts roles r (headOf s r)) refl (row-holds ts roles good r present (headOf s r) (hs .0)) t
 
 -- and a role that has one is awaited
@@ -151,4 +151,4 @@ acts-awaited ts roles s r (receives p e) =
 pub awaited-is : (ts : List ℕ) (roles : ℕ) (s : Session) → tablesGood base ts roles ≡ true → stateGood base ts roles s ≡ true
     → awaitedOf base ts roles s ≡ roleSet 0 (isAwaited base ts roles s) roles 8 s
 unfolding awaitedOf
-awaited-is ts roles s good judged = rw (good, judged)
+awaited-is ts roles s good standing = rw (good, standing)

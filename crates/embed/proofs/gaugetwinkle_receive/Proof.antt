@@ -37,10 +37,13 @@ returns c =
     let answer = said (a .tables .now) (a .roles) (a .heads .now) (a .counts .now) (a .labels .now) (a .payloads .now)
     call _ (given .read-in .ensures) _ (step .received .ensures) in
     record {
-      handed =
-          handed (a .tables .now) (a .roles) (a .heads .now) (a .counts .now) (a .labels .now) (a .payloads .now)
-          call _ (given .read-in .ensures) _ (step .received .ensures) _ _ _ _
-          (put .put-back .ensures .0) (put .put-back .ensures .1) (put .put-back .ensures .2) (put .put-back .ensures .3);
+      answered = record {
+        handed =
+            handed (a .tables .now) (a .roles) (a .heads .now) (a .counts .now) (a .labels .now) (a .payloads .now)
+            call _ (given .read-in .ensures) _ (step .received .ensures) _ _ _ _
+            (put .put-back .ensures .0) (put .put-back .ensures .1) (put .put-back .ensures .2) (put .put-back .ensures .3);
+        offered-is = answer .0;
+      };
       label-is = answer .1;
       payload-is = answer .2;
     }

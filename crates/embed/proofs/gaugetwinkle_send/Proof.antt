@@ -2,7 +2,7 @@
 use borrow.Author.Needs.{needs}
 use Rattle.table.specs.Limits.{base}
 use Rattle.session.specs.Calls.{sendOf}
-use Rattle.embed.proofs.Handing.{handed}
+use Rattle.embed.proofs.Handing.{handed, said}
 use Rattle.embed.proofs.gaugetwinkle_send.Statement.{statement}
 use Rattle.embed.proofs.gaugetwinkle_send.Tie as tie
 
@@ -34,9 +34,15 @@ returns c =
     let given = step .before in
     let a = given .before .before .before .before .before .before .before .before .before .before .args in
     let call = sendOf base (a .tables .now) (a .roles) (a .sender) (a .receiver) (a .label) (a .payload) in
-    handed (a .tables .now) (a .roles) (a .heads .now) (a .counts .now) (a .labels .now) (a .payloads .now)
-    call _ (given .read-in .ensures) _ (step .sent .ensures) _ _ _ _
-    (put .put-back .ensures .0) (put .put-back .ensures .1) (put .put-back .ensures .2) (put .put-back .ensures .3)
+    let answer = said (a .tables .now) (a .roles) (a .heads .now) (a .counts .now) (a .labels .now) (a .payloads .now)
+    call _ (given .read-in .ensures) _ (step .sent .ensures) in
+    record {
+      handed =
+          handed (a .tables .now) (a .roles) (a .heads .now) (a .counts .now) (a .labels .now) (a .payloads .now)
+          call _ (given .read-in .ensures) _ (step .sent .ensures) _ _ _ _
+          (put .put-back .ensures .0) (put .put-back .ensures .1) (put .put-back .ensures .2) (put .put-back .ensures .3);
+      offered-is = answer .0;
+    }
 
 pub gaugetwinkle-send-spec : {M : Type 1} → statement M
 gaugetwinkle-send-spec =

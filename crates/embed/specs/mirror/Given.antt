@@ -11,4 +11,4 @@ use Rattle.embed.specs.Lent.{wrongNumber}
 
 -- a refused call hands back what was read in
 abbrev pub givenCall : Limits → List ℕ → ℕ → (Session → Answer) → Given → Answer
-givenCall lim ts roles call g = cond (g .whole) (call (g .state)) (answers (wrongNumber lim ts roles) (g .state))
+givenCall lim ts roles call g = cond (g .whole) (call (g .state)) (answers lim (wrongNumber lim ts roles) (g .state))

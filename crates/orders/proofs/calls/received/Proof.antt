@@ -32,19 +32,25 @@ cast-told-3 c = search needs
 array-write-told-4 : tie.Need-array-write-told-4
 array-write-told-4 c = search needs
 
+cast-told-4 : tie.Need-cast-told-4
+cast-told-4 c = search needs
+
 array-write-told-5 : tie.Need-array-write-told-5
 array-write-told-5 c = search needs
 
 array-write-told-6 : tie.Need-array-write-told-6
 array-write-told-6 c = search needs
 
+array-write-told-7 : tie.Need-array-write-told-7
+array-write-told-7 c = search needs
+
 called-requires : tie.Need-called-requires
 called-requires c κs = search needs
 
 returns : tie.Need-returns
 returns c =
-    let a = c .before .before .before .before .before .before .before .before .args in
-    told (c .called .ensures) (omega arith) (omega arith) (received-reply (a .run) (a .words .now) _ (a .answer) (c .before .before .before .before .awaited .result) (c .before .before .before .before .before .first .ensures) (c .before .before .before .before .awaited .ensures))
+    let a = c .before .before .before .before .before .before .before .before .before .args in
+    told (c .called .ensures) (omega arith) (omega arith) (received-reply (a .run) (a .words .now) _ (a .answer) (c .before .before .before .before .before .awaited .result) (c .before .before .before .before .before .before .first .ensures) (c .before .before .before .before .before .awaited .ensures))
 
 pub received-spec : {M : Type 1} → statement M
 received-spec =
@@ -59,7 +65,9 @@ received-spec =
     array-write-told-3
     cast-told-3
     array-write-told-4
+    cast-told-4
     array-write-told-5
     array-write-told-6
+    array-write-told-7
     called-requires
     returns)

@@ -23,19 +23,25 @@ cast-told-2 c = search needs
 array-write-told-2 : tie.Need-array-write-told-2
 array-write-told-2 c = search needs
 
+cast-told-3 : tie.Need-cast-told-3
+cast-told-3 c = search needs
+
 array-write-told-3 : tie.Need-array-write-told-3
 array-write-told-3 c = search needs
 
 array-write-told-4 : tie.Need-array-write-told-4
 array-write-told-4 c = search needs
 
+array-write-told-5 : tie.Need-array-write-told-5
+array-write-told-5 c = search needs
+
 called-requires : tie.Need-called-requires
 called-requires c κs = search needs
 
 returns : tie.Need-returns
 returns c =
-    let a = c .before .before .before .before .before .before .before .args in
-    told (c .called .ensures) (omega arith) (omega arith) (sent-reply (a .run) (a .words .now) _ (a .answer) (c .before .before .before .awaited .result) (c .before .before .before .before .first .ensures) (c .before .before .before .awaited .ensures))
+    let a = c .before .before .before .before .before .before .before .before .args in
+    told (c .called .ensures) (omega arith) (omega arith) (sent-reply (a .run) (a .words .now) _ (a .answer) (c .before .before .before .before .awaited .result) (c .before .before .before .before .before .first .ensures) (c .before .before .before .before .awaited .ensures))
 
 pub sent-spec : {M : Type 1} → statement M
 sent-spec =
@@ -47,7 +53,9 @@ sent-spec =
     array-write-told
     cast-told-2
     array-write-told-2
+    cast-told-3
     array-write-told-3
     array-write-told-4
+    array-write-told-5
     called-requires
     returns)
