@@ -12,19 +12,19 @@ use Rattle.blocks.specs.Tables.{tablesGood}
 use Rattle.state.specs.State.{arePair}
 use Rattle.session.specs.State.{headOf, held, labelAt, nothing, stateGood}
 use Rattle.session.specs.Calls.{refusedIf, judged, freshOf, sendArm, sendAt, sendOf, receiveArm, receiveAt, receiveOf}
-use Rattle.session.specs.Before.{AnswerBefore, without, unlessBefore, standingBefore, sendArmBefore, sendAtBefore, receiveArmBefore, receiveAtBefore, AnswersStay}
+use Rattle.session.specs.Before.{AnswerBefore, without, refusedIfBefore, judgedBefore, sendArmBefore, sendAtBefore, receiveArmBefore, receiveAtBefore, AnswersStay}
 use Rattle.session.specs.declared.Session.{Session}
 use Rattle.session.specs.declared.Answer.{Answer}
 
 -- a test stays, where the rest does
 same-refusedIf : (lim : Limits) (n : ℕ) (b : Bool) (s : Session) (rest : Answer) (before : AnswerBefore) → without rest ≡ before
-    → without (refusedIf lim n b s rest) ≡ unlessBefore n b s before
+    → without (refusedIf lim n b s rest) ≡ refusedIfBefore n b s before
 same-refusedIf lim n true s rest before e = refl
 same-refusedIf lim n false s rest before e = e
 
 module _ (lim : Limits) (ts : List ℕ) (roles p q : ℕ) (s : Session) where
   same-standing : (rest : Answer) (before : AnswerBefore) → without rest ≡ before
-      → without (judged lim ts roles p q s rest) ≡ standingBefore lim ts roles p q s before
+      → without (judged lim ts roles p q s rest) ≡ judgedBefore lim ts roles p q s before
   same-standing rest before e =
       same-refusedIf lim 12 (not (tablesGood lim ts roles)) s _ _ (
       same-refusedIf lim 13 (not (stateGood lim ts roles s)) s _ _ (same-refusedIf lim 14 (not (arePair roles p q)) s rest before e))

@@ -31,18 +31,18 @@ without a = record { number = a .number; label = a .label; payload = a .payload;
 abbrev pub answersBefore : ℕ → Session → AnswerBefore
 answersBefore n s = record { number = n; label = 0; payload = 0; state = s }
 
-abbrev pub unlessBefore : ℕ → Bool → Session → AnswerBefore → AnswerBefore
-unlessBefore n broken s rest = cond broken (answersBefore n s) rest
+abbrev pub refusedIfBefore : ℕ → Bool → Session → AnswerBefore → AnswerBefore
+refusedIfBefore n broken s rest = cond broken (answersBefore n s) rest
 
-abbrev pub standingBefore : Limits → List ℕ → ℕ → ℕ → ℕ → Session → AnswerBefore → AnswerBefore
-standingBefore lim ts roles p q s rest =
-    unlessBefore TABLES (not (tablesGood lim ts roles)) s (
-    unlessBefore STATE (not (stateGood lim ts roles s)) s (
-    unlessBefore PARTY (not (arePair roles p q)) s rest))
+abbrev pub judgedBefore : Limits → List ℕ → ℕ → ℕ → ℕ → Session → AnswerBefore → AnswerBefore
+judgedBefore lim ts roles p q s rest =
+    refusedIfBefore TABLES (not (tablesGood lim ts roles)) s (
+    refusedIfBefore STATE (not (stateGood lim ts roles s)) s (
+    refusedIfBefore PARTY (not (arePair roles p q)) s rest))
 
 abbrev pub freshBefore : Limits → List ℕ → ℕ → AnswerBefore
 freshBefore lim ts roles =
-    unlessBefore TABLES (not (tablesGood lim ts roles)) (nothing lim) (
+    refusedIfBefore TABLES (not (tablesGood lim ts roles)) (nothing lim) (
     answersBefore ACCEPTED (record {
       heads = firstHeads ts roles (lim .roles);
       counts = nothing lim .counts;
@@ -53,7 +53,7 @@ freshBefore lim ts roles =
 abbrev pub sendArmBefore : Limits → List ℕ → ℕ → ℕ → ℕ → ℕ → ℕ → Session → Option ℕ → AnswerBefore
 sendArmBefore lim ts roles p q l v s none = answersBefore LABEL s
 sendArmBefore lim ts roles p q l v s (some c) =
-    unlessBefore FULL (leb (lim .depth) (held lim s p q)) s (
+    refusedIfBefore FULL (leb (lim .depth) (held lim s p q)) s (
     answersBefore ACCEPTED (moved (pushed lim s p q l v) p (head ts roles p c)))
 
 abbrev pub sendAtBefore : Limits → List ℕ → ℕ → ℕ → ℕ → ℕ → ℕ → Session → PartRow → AnswerBefore
@@ -62,13 +62,13 @@ sendAtBefore lim ts roles p q l v s (Arm k c n) = answersBefore TURN s
 sendAtBefore lim ts roles p q l v s (Loop b x y) = answersBefore TURN s
 sendAtBefore lim ts roles p q l v s (Back j x y) = answersBefore TURN s
 sendAtBefore lim ts roles p q l v s (Send peer f x) =
-    unlessBefore TURN (not (eqb peer q)) s (sendArmBefore lim ts roles p q l v s (find l (armsOf ts roles p f)))
+    refusedIfBefore TURN (not (eqb peer q)) s (sendArmBefore lim ts roles p q l v s (find l (armsOf ts roles p f)))
 sendAtBefore lim ts roles p q l v s (Receive peer f x) = answersBefore TURN s
 sendAtBefore lim ts roles p q l v s Other = answersBefore TURN s
 
 abbrev pub sendBefore : Limits → List ℕ → ℕ → ℕ → ℕ → ℕ → ℕ → Session → AnswerBefore
 sendBefore lim ts roles p q l v s =
-    standingBefore lim ts roles p q s (sendAtBefore lim ts roles p q l v s (partRow ts roles p (headOf s p)))
+    judgedBefore lim ts roles p q s (sendAtBefore lim ts roles p q l v s (partRow ts roles p (headOf s p)))
 
 abbrev pub receiveArmBefore : Limits → List ℕ → ℕ → ℕ → ℕ → Session → Option ℕ → AnswerBefore
 receiveArmBefore lim ts roles p q s none = answersBefore STRAY s
@@ -86,14 +86,14 @@ receiveAtBefore lim ts roles p q s (Loop b x y) = answersBefore TURN s
 receiveAtBefore lim ts roles p q s (Back j x y) = answersBefore TURN s
 receiveAtBefore lim ts roles p q s (Send peer f x) = answersBefore TURN s
 receiveAtBefore lim ts roles p q s (Receive peer f x) =
-    unlessBefore TURN (not (eqb peer p)) s (
-    unlessBefore EMPTY (eqb (held lim s p q) 0) s (
+    refusedIfBefore TURN (not (eqb peer p)) s (
+    refusedIfBefore EMPTY (eqb (held lim s p q) 0) s (
     receiveArmBefore lim ts roles p q s (find (labelAt lim s p q 0) (armsOf ts roles q f))))
 receiveAtBefore lim ts roles p q s Other = answersBefore TURN s
 
 abbrev pub receiveBefore : Limits → List ℕ → ℕ → ℕ → ℕ → Session → AnswerBefore
 receiveBefore lim ts roles p q s =
-    standingBefore lim ts roles p q s (receiveAtBefore lim ts roles p q s (partRow ts roles q (headOf s q)))
+    judgedBefore lim ts roles p q s (receiveAtBefore lim ts roles p q s (partRow ts roles q (headOf s q)))
 
 -- 'Acceptances do not move', nor any refusal, value or state: for every input, good or not. The awaited answer has no other definition now
 -- (Awaited.antt) than before
