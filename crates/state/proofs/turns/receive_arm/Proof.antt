@@ -1,8 +1,9 @@
 -- `turns::receive_arm` meets its contract. Assumes nothing.
-use mathlib.Core.Path.{sym, _∙_}
+use mathlib.Core.Path.{sym, _∙_, ap}
 use borrow.Author.Tests.{eq-eqb, ne-eqb}
 use Rattle.blocks.specs.Head.{find}
 use Rattle.blocks.specs.mirror.Rows.{chainAt}
+use Rattle.state.specs.declared.Turn.the-variants.{Offered}
 use Rattle.state.specs.mirror.Turns.{receiveTurn, receiveFound}
 use Rattle.state.proofs.Turning.{found-nothing, found-at}
 use borrow.Author.Needs.{needs}
@@ -47,8 +48,8 @@ returns-3 c =
       ne-eqb _ _ (c .before .before .before .before .before .if2 .left),
       ← (c .before .before .before .before .wide2 .ensures .0),
       none,
-      least,
     )
+    (ap (Offered 19) least)
 
 returns-4 : tie.Need-returns-4
 unfolding receiveTurn receiveFound

@@ -1,8 +1,9 @@
 -- `turns::send_arm` meets its contract. Assumes nothing.
-use mathlib.Core.Path.{sym, _∙_}
+use mathlib.Core.Path.{sym, _∙_, ap}
 use borrow.Author.Tests.{eq-eqb, ne-eqb, le-leb, lt-leb}
 use Rattle.blocks.specs.Head.{find}
 use Rattle.blocks.specs.mirror.Rows.{chainAt}
+use Rattle.state.specs.declared.Turn.the-variants.{Offered}
 use Rattle.state.specs.mirror.Turns.{sendTurn, sendFound}
 use Rattle.state.proofs.Turning.{found-nothing, found-at}
 use borrow.Author.Needs.{needs}
@@ -50,7 +51,7 @@ returns-3 c =
     let a = c .before .before .before .before .before .before .before .args in
     let o = find (a .label) (chainAt (a .rows) (a .tables .now) (a .start) (a .part .second)) in
     let (none, least) = found-nothing o _ _ (sym (c .before .before .before .find-arm .ensures) ∙ c .before .found .given .1) in
-    rw (eq-eqb _ _ (sym (c .before .before .before .before .before .wide .ensures .0) ∙ c .before .before .before .before .if1 .left), none, least)
+    rw (eq-eqb _ _ (sym (c .before .before .before .before .before .wide .ensures .0) ∙ c .before .before .before .before .if1 .left), none) (ap (Offered 16) least)
 
 returns-4 : tie.Need-returns-4
 unfolding sendTurn sendFound
