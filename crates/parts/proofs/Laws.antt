@@ -5,8 +5,8 @@ use mathlib.Core.Option.{Option, none, some, bind}
 use mathlib.Core.Path.{_≡_, refl}
 use native.Mathlib.Omega.{arith}
 use lib.Dec.{leb, eqb}
-use Rattle.table.specs.Tree.{Global, end, exchange, flight, loop, back, Arms, nil, arm}
-use Rattle.table.specs.mirror.Kept.{HasLabel, has-here, has-there, Good, g-end, g-exchange, g-flight, g-loop, g-back, GoodArms, g-nil, g-arm, rowsIn, rowsInArms}
+use Rattle.table.specs.Tree.{Global, end, exchange, flight, loop, back, Arms, nil, arm, rowsIn, rowsInArms}
+use Rattle.table.specs.mirror.Kept.{HasLabel, has-here, has-there, Good, g-end, g-exchange, g-flight, g-loop, g-back, GoodArms, g-nil, g-arm}
 use Rattle.parts.specs.Part.{Part, p-end, p-send, p-receive, p-loop, p-back, PartArms, p-nil, p-arm, insert, rising}
 use Rattle.parts.specs.Absent.{takesPart, leaves}
 use Rattle.parts.specs.Merge.{merge}

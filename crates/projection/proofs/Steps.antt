@@ -10,8 +10,8 @@ use lib.ListN.{length, getD, set, length-append}
 use lib.Seq.{set-at, append-snoc}
 use borrow.Author.Tests.{ne-eqb}
 use Rattle.words.specs.Rows.{word}
-use Rattle.table.specs.Tree.{Global, end, exchange, flight, loop, back, Arms, nil, arm}
-use Rattle.table.specs.mirror.Kept.{Good, g-exchange, GoodArms, g-nil, g-arm, rowsIn, rowsInArms}
+use Rattle.table.specs.Tree.{Global, end, exchange, flight, loop, back, Arms, nil, arm, rowsIn, rowsInArms}
+use Rattle.table.specs.mirror.Kept.{Good, g-exchange, GoodArms, g-nil, g-arm}
 use Rattle.parts.specs.Part.{Part, PartArms, p-nil, p-arm, rising}
 use Rattle.parts.specs.Merge.{merge}
 use Rattle.parts.specs.Projection.{part, partArms, partExchange, mergeFrom, mergeAll}

@@ -9,8 +9,8 @@ use native.Mathlib.Numerals.{add-one}
 use native.Mathlib.Omega.{arith}
 use lib.ListN.{length, length-append}
 use Rattle.words.specs.Rows.{rowsOf}
-use Rattle.table.specs.Tree.{Global, Arms, treeOf}
-use Rattle.table.specs.mirror.Kept.{Inside, i-end, i-exchange, i-loop, i-back, InsideArms, i-nil, i-arm, Static, t-end, t-exchange, t-loop, t-back, StaticArms, t-nil, t-arm, Good, Ranged, r-end, r-exchange, r-loop, r-back, RangedArms, r-nil, r-arm, rowsIn, rowsInArms}
+use Rattle.table.specs.Tree.{Global, Arms, treeOf, rowsIn, rowsInArms}
+use Rattle.table.specs.mirror.Kept.{Inside, i-end, i-exchange, i-loop, i-back, InsideArms, i-nil, i-arm, Static, t-end, t-exchange, t-loop, t-back, StaticArms, t-nil, t-arm, Good, Ranged, r-end, r-exchange, r-loop, r-back, RangedArms, r-nil, r-arm}
 use Rattle.table.specs.Limits.{base}
 use Rattle.table.specs.Check.{accepted, checkOf}
 use Rattle.table.proofs.Sizes.{measured}

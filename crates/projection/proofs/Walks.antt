@@ -11,8 +11,8 @@ use lib.ListN.{length, getD, length-append, length-replicate, replicate-append-r
 use borrow.Author.Tests.{eqb-true, not-true, not-false}
 use Rattle.words.proofs.Below.{and-both}
 use Rattle.words.specs.Rows.{word}
-use Rattle.table.specs.Tree.{Global, exchange, loop, Arms, nil, arm}
-use Rattle.table.specs.mirror.Kept.{Good, g-exchange, g-loop, g-arm, rowsIn, rowsInArms}
+use Rattle.table.specs.Tree.{Global, exchange, loop, Arms, nil, arm, rowsIn, rowsInArms}
+use Rattle.table.specs.mirror.Kept.{Good, g-exchange, g-loop, g-arm}
 use Rattle.parts.specs.Part.{Part, p-loop, PartArms, p-nil, p-arm, rising}
 use Rattle.parts.specs.Absent.{takesPart, leaves}
 use Rattle.parts.specs.Projection.{part, partArms, partExchange, mergeFrom, mergeAll}

@@ -15,8 +15,7 @@ use Rattle.table.specs.Limits.{Limits}
 use Rattle.table.specs.Rows.{row, isArm}
 use Rattle.table.specs.Above.{namer, above}
 use Rattle.table.specs.Check.{accepted, checkOf}
-use Rattle.table.specs.Tree.{treeOf}
-use Rattle.table.specs.mirror.Kept.{rowsIn, rowsInArms}
+use Rattle.table.specs.Tree.{treeOf, rowsIn, rowsInArms}
 use Rattle.table.specs.mirror.Names.{nearLink, farLink}
 use Rattle.table.proofs.Tests.{either}
 use Rattle.table.proofs.Accepted.{Obeys, obeys}

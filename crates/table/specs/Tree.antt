@@ -1,6 +1,6 @@
 -- The tree that a table stands for, and the running tree of a protocol: the same tree, some of whose exchanges are in flight.
 -- A is the type of payloads. Assumes nothing.
-use Prim.Native.Nat.{ℕ, zero, suc}
+use Prim.Native.Nat.{ℕ, zero, suc, _+_}
 use mathlib.Core.List.{List}
 use Rattle.words.specs.Rows.{rowsOf}
 use Rattle.table.specs.Rows.{Row, End, Exchange, Arm, Loop, Back, Other, row}
@@ -61,3 +61,16 @@ unfoldable mutual
 unfoldable pub treeOf : {A : Type 0} → List ℕ → Global A
 unfolding treeAt
 treeOf t = treeAt (rowsOf t) t 0
+
+-- the rows of a tree: one for each end, exchange, arm, loop and back
+unfoldable mutual
+  pub rowsIn : {A : Type 0} → Global A → ℕ
+  rowsIn end = 1
+  rowsIn (exchange p q cs) = suc (rowsInArms cs)
+  rowsIn (flight p q l v G) = suc (rowsIn G)
+  rowsIn (loop G) = suc (rowsIn G)
+  rowsIn (back k) = 1
+
+  pub rowsInArms : {A : Type 0} → Arms A → ℕ
+  rowsInArms nil = 0
+  rowsInArms (arm l G cs) = suc (rowsIn G + rowsInArms cs)

@@ -15,8 +15,8 @@ use Rattle.table.specs.Numbers.{NOPART}
 use Rattle.table.specs.Rules.{rules}
 use Rattle.table.specs.Check.{accepted, refusedAt, sized, tested, checkOf}
 use Rattle.table.specs.declared.Verdict.{Verdict}
-use Rattle.table.specs.mirror.Kept.{Good, GoodArms, rowsIn, rowsInArms}
-use Rattle.table.specs.Tree.{Global, end, exchange, loop, back, Arms, nil, arm}
+use Rattle.table.specs.mirror.Kept.{Good, GoodArms}
+use Rattle.table.specs.Tree.{Global, end, exchange, loop, back, Arms, nil, arm, rowsIn, rowsInArms}
 use Rattle.parts.specs.Part.{Part, PartArms, rising}
 use Rattle.parts.specs.Absent.{takesPart, leaves}
 use Rattle.parts.specs.Projection.{part, partArms, partExchange, mergeFrom, mergeAll, partOf, present}

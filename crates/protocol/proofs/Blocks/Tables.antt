@@ -14,9 +14,9 @@ use borrow.Author.Tests.{lt-ltb, le-leb, eq-eqb}
 use Rattle.words.specs.Rows.{word, rowsOf}
 use Rattle.words.proofs.Below.{every-all}
 use Rattle.words.proofs.Zeros.{zeros}
-use Rattle.table.specs.mirror.Kept.{Inside, Static, Good, Ranged, rowsIn}
+use Rattle.table.specs.mirror.Kept.{Inside, Static, Good, Ranged}
 use Rattle.table.specs.Limits.{Limits}
-use Rattle.table.specs.Tree.{treeOf}
+use Rattle.table.specs.Tree.{treeOf, rowsIn}
 use Rattle.parts.specs.Part.{Part}
 use Rattle.parts.specs.Layout.{size, layout, block, blockOf}
 use Rattle.parts.specs.Projection.{partOf}

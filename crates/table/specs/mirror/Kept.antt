@@ -1,6 +1,6 @@
 -- What the rules of the table give its tree, each as a family over the tree: no Back leaves it, nothing is in flight, exchanges are between
 -- two roles and have arms of different labels, roles and labels are in range, each Back is guarded. Assumes nothing.
-use Prim.Native.Nat.{ℕ, suc, _+_, _≤_, _<_}
+use Prim.Native.Nat.{ℕ, suc, _≤_, _<_}
 use mathlib.Core.Logic.{_≢_}
 use Rattle.table.specs.Tree.{Global, end, exchange, flight, loop, back, Arms, nil, arm}
 
@@ -74,16 +74,3 @@ mutual
   pub data GuardedArms {A : Type 0} : Arms A → Type 0 where
     u-nil : GuardedArms nil
     u-arm : {l : ℕ} {G : Global A} {cs : Arms A} → Guarded 0 G → GuardedArms cs → GuardedArms (arm l G cs)
-
--- the rows of a tree: one for each end, exchange, arm, loop and back
-unfoldable mutual
-  pub rowsIn : {A : Type 0} → Global A → ℕ
-  rowsIn end = 1
-  rowsIn (exchange p q cs) = suc (rowsInArms cs)
-  rowsIn (flight p q l v G) = suc (rowsIn G)
-  rowsIn (loop G) = suc (rowsIn G)
-  rowsIn (back k) = 1
-
-  pub rowsInArms : {A : Type 0} → Arms A → ℕ
-  rowsInArms nil = 0
-  rowsInArms (arm l G cs) = suc (rowsIn G + rowsInArms cs)
