@@ -1,0 +1,11 @@
+pub mod Ascii
+pub mod Tokens
+pub mod Grammar
+pub mod Names
+pub mod Laid
+pub mod Meaning
+pub mod Refusals
+pub mod Outcome
+pub mod Stated
+pub mod Examples
+pub mod mirror
