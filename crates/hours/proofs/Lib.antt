@@ -1,0 +1,15 @@
+pub mod Sums
+pub mod Sets
+pub mod Each
+pub mod Slots
+pub mod Minutes
+pub mod Steps
+pub mod Run
+pub mod Finish
+pub mod Turns
+pub mod Recorded
+pub mod Promises
+pub mod Accounts
+pub mod Charges
+pub mod Inside
+pub mod Claims
