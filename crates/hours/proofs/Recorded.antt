@@ -23,7 +23,7 @@ lengths ms ws ss e =
     let (a, b) = and-both (eqb (length ws) (length ms)) (eqb (length ss) (length ms)) e in
     (eqb-true (length ws) (length ms) a, eqb-true (length ss) (length ms) b)
 
-records-length : (ms ws ss : List ℕ) → length ws ≡ length ms → length ss ≡ length ms → length (recordsOf ms ws ss) ≡ length ms
+pub records-length : (ms ws ss : List ℕ) → length ws ≡ length ms → length ss ≡ length ms → length (recordsOf ms ws ss) ≡ length ms
 unfolding recordsOf
 records-length [] ws ss a b = refl
 records-length (m ∷ ms) [] ss a b = absurd (omega arith)

@@ -1,0 +1,3 @@
+pub mod Reading
+pub mod Recording
+pub mod Telling
