@@ -9,7 +9,7 @@ use Rattle.hours.specs.Report.{reportOf}
 use Rattle.hours.specs.Arrays.{recordsOf}
 use Rattle.hours.specs.declared.Record.{Record}
 use Rattle.hours.specs.declared.Figures.{Figures}
-use Rattle.logs.specs.Lines.{Kept, fresh, faulty, logged, takenOf, answerOf}
+use Rattle.logs.specs.Lines.{Kept, fresh, faulty, logged, answerOf}
 use Rattle.logs.specs.declared.Log.{Log}
 
 -- the records are the first ones of three arrays

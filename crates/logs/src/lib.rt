@@ -85,7 +85,7 @@ fn put(
 ) -> Log
     requires { ⌜ (length (now minutes) ≡ suc MOST) × (length (now flags) ≡ suc MOST) × (length (now sets) ≡ suc MOST) ⌝ }
     ensures { λ r. ⌜ (records r (now (minutes .exit)) (now (flags .exit)) (now (sets .exit))
-            ≡ recordMore (records log (now (minutes .entry)) (now (flags .entry)) (now (sets .entry))) (recordOf minute flag set))
+        ≡ recordMore (records log (now (minutes .entry)) (now (flags .entry)) (now (sets .entry))) (recordOf minute flag set))
         × (r .begun ≡ log .begun) × (r .faulty ≡ log .faulty) × (r .roles ≡ log .roles) ⌝ }
 {
     let at = log.count;

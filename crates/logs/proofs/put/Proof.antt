@@ -8,7 +8,7 @@ use Rattle.logs.proofs.put.Statement.{statement}
 use Rattle.logs.proofs.put.Tie as tie
 
 returns : tie.Need-returns
-returns c = 
+returns c =
     let a = c .before .args in
     let l = c .before .pre in
     (full-holds (a .minutes .now) (a .flags .now) (a .sets .now) (a .log .count) (l .0) (l .1) (l .2) (c .if1 .taken) (recordOf (a .minute) (a .flag) (a .set)), refl, refl, refl)
@@ -41,7 +41,7 @@ same-length-3 : tie.Need-same-length-3
 same-length-3 c = search needs
 
 returns-2 : tie.Need-returns-2
-returns-2 c = 
+returns-2 c =
     let a = c .before .args in
     let l = c .before .pre in
     (more-held (a .minutes .now) (a .flags .now) (a .sets .now) (a .log .count) (l .0) (l .1) (l .2) (c .if1 .left) (a .minute) (a .flag) (a .set), refl, refl, refl)

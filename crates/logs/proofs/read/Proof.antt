@@ -19,7 +19,7 @@ same-length : tie.Need-same-length
 same-length c = search needs
 
 returns : tie.Need-returns
-returns c = 
+returns c =
     let start = c .before .before .before .before .before .before .before .before in
     rw (none-read (start .args .line .now) (start .args .numbers .now) (start .pre) _ (c .before .before .before .before .numbers .ensures .0) (c .enum-told .given .1)) (refl, omega arith)
 
@@ -27,7 +27,7 @@ same-length-2 : tie.Need-same-length-2
 same-length-2 c = search needs
 
 returns-2 : tie.Need-returns-2
-returns-2 c = 
+returns-2 c =
     let start = c .before .before .before .before .before .before .before .before .before in
     let ends = c .before .before .before .before .before .numbers .ensures in
     all-read (start .args .line .now) (start .args .numbers .now) (start .pre) _ _ (ends .0) (c .before .count .given .1) _ (ends .1)

@@ -28,7 +28,7 @@ report-requires : tie.Need-report-requires
 report-requires c κs = search needs
 
 returns : tie.Need-returns
-returns c = 
+returns c =
     let start = c .before .before .before .before .before .before .before .before .before .before in
     let a = start .args in
     let n = a .log .count in

@@ -2,18 +2,16 @@
 use mathlib.Core.Path.{sym, ap, _∙_}
 use mathlib.Core.List.{[]}
 use Prim.Native.Nat.{ℕ}
-use native.Mathlib.Omega.{arith}
 use borrow.Author.Needs.{needs}
-use lib.ListN.{length}
 use Rattle.hours.specs.Arrays.{recordsOf}
-use Rattle.logs.specs.Lines.{LONGEST, logged, recorded}
+use Rattle.logs.specs.Lines.{logged, recorded}
 use Rattle.logs.specs.Logs.{records}
 use Rattle.logs.proofs.Recording.{stays-fault, takes-record, takes-count, keeps-fault, first-line, other-line}
 use Rattle.logs.proofs.take.Statement.{statement}
 use Rattle.logs.proofs.take.Tie as tie
 
 returns : tie.Need-returns
-returns c = 
+returns c =
     let a = c .before .before .args in
     stays-fault (a .log) (a .minutes .now) (a .flags .now) (a .sets .now) (a .line .now) (c .if1 .taken)
 
@@ -24,7 +22,7 @@ recorded-requires : tie.Need-recorded-requires
 recorded-requires c κs = search needs
 
 returns-2 : tie.Need-returns-2
-returns-2 c = 
+returns-2 c =
     let a = c .before .before .before .before .before .before .before .before .before .before .before .args in
     c .recorded .ensures
     ∙ ap (recorded (a .log .roles) (records (a .log) (a .minutes .now) (a .flags .now) (a .sets .now))) (c .before .before .before .before .before .before .before .read .ensures .0)
@@ -34,7 +32,7 @@ fault-requires : tie.Need-fault-requires
 fault-requires c κs = search needs
 
 returns-3 : tie.Need-returns-3
-returns-3 c = 
+returns-3 c =
     let start = c .before .before .before .before .before .before .before in
     let a = start .args in
     let r = c .before .before .before .read .ensures in
@@ -51,7 +49,7 @@ size-requires c κs = search needs
 
 returns-4 : tie.Need-returns-4
 unfolding recordsOf
-returns-4 c = 
+returns-4 c =
     let start = c .before .before .before .before .before .before .before .before in
     let a = start .args in
     let r = c .before .before .before .before .read .ensures in

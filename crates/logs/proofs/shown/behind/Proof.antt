@@ -15,14 +15,14 @@ array-read-result : tie.Need-array-read-result
 array-read-result c = search needs
 
 returns : tie.Need-returns
-returns c = 
+returns c =
     let start = c .before .before in
     let f = start .args .f in
     let long : length (f .alone) ≡ base .roles = search (needs, start .good) in
     at-alone (f .alone) (base .roles) (f .several) (f .nobody) long (start .args .i) (c .before .if1 .taken)
 
 returns-2 : tie.Need-returns-2
-returns-2 c = 
+returns-2 c =
     let start = c .before .before in
     let f = start .args .f in
     let long : length (f .alone) ≡ base .roles = search (needs, start .good) in
@@ -32,14 +32,14 @@ add-if3 : tie.Need-add-if3
 add-if3 c = search needs
 
 returns-3 : tie.Need-returns-3
-returns-3 c = 
+returns-3 c =
     let start = c .before .before .before in
     let f = start .args .f in
     let long : length (f .alone) ≡ base .roles = search (needs, start .good) in
     at-nobody (f .alone) (base .roles) (f .several) (f .nobody) long (start .args .i) (c .if3 .taken)
 
 returns-4 : tie.Need-returns-4
-returns-4 c = 
+returns-4 c =
     let start = c .before .before .before in
     let f = start .args .f in
     let long : length (f .alone) ≡ base .roles = search (needs, start .good) in

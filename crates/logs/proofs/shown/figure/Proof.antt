@@ -35,7 +35,7 @@ behind-requires : tie.Need-behind-requires
 behind-requires c κs = search needs
 
 returns-6 : tie.Need-returns-6
-returns-6 c = 
+returns-6 c =
     let a = c .before .before .before .before .before .before .args in
     let f = a .f in
     c .behind .ensures

@@ -44,13 +44,13 @@ loop-less : tie.Need-loop-less Inv-loop μ-loop
 loop-less c = omega arith
 
 loop-again : tie.Need-loop-again Inv-loop μ-loop
-loop-again c = 
+loop-again c =
     let f = c .before .before .before .args .f in
     let was = c .before .before .loop in
     (omega arith, rw (was .inv .1, add-one) (fill-next (atPlace f) (7 + base .roles) (was .i) (c .figure .result) (omega arith) (c .figure .ensures)))
 
 returns : tie.Need-returns Inv-loop μ-loop
-returns c = 
+returns c =
     let start = c .before .before in
     let f = start .args .f in
     let long : length (f .alone) ≡ base .roles = search (needs, start .good) in
