@@ -12,13 +12,13 @@ use Rattle.words.proofs.Below.{and-both}
 use Rattle.lines.specs.declared.read.Count.{Count}
 use Rattle.lines.specs.declared.read.Count.the-variants.{Of, Malformed}
 use Rattle.lines.specs.Line.{wellFormed, numbersOf, countOf}
-use Rattle.lines.specs.Over.{over}
+use Rattle.lines.specs.Over.{overlaid}
 use Rattle.lines.proofs.Counting.{few-numbers}
 use Rattle.logs.specs.Lines.{LONGEST, isLine, lineNumbers}
 
 -- what was written stands in front
-pub over-front : (xs old : List ℕ) → length xs ≤ length old → take (length xs) (over 0 xs old) ≡ xs
-unfolding over
+pub over-front : (xs old : List ℕ) → length xs ≤ length old → take (length xs) (overlaid 0 xs old) ≡ xs
+unfolding overlaid
 over-front xs old l =
     let all : length old - 0 ≡ length old = omega arith in
     let none : 0 + length xs ≡ length xs = omega arith in
@@ -52,10 +52,10 @@ module _ (line old : List ℕ) (long : length old ≡ LONGEST) where
         let h = rw (long, a-line) at e in
         cc
 
-    pub all-read : (new : List ℕ) → new ≡ cond (leb (length line) (length old)) (over 0 (numbersOf line) old) old
+    pub all-read : (new : List ℕ) → new ≡ cond (leb (length line) (length old)) (overlaid 0 (numbersOf line) old) old
         → (take n new ≡ lineNumbers line) × (n ≤ LONGEST)
     all-read new g =
         let short : leb (length line) LONGEST ≡ true = and-both (leb (length line) LONGEST) (wellFormed line) a-line .0 in
         let all : length (numbersOf line) ≤ length old = omega (arith, leb-true (length line) LONGEST short, few-numbers line) in
-        let there : new ≡ over 0 (numbersOf line) old = g ∙ rw (long, short) in
+        let there : new ≡ overlaid 0 (numbersOf line) old = g ∙ rw (long, short) in
         (rw (a-line, counted, there) (over-front (numbersOf line) old all), omega (arith, counted, all, long))

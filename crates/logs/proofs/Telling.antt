@@ -10,7 +10,7 @@ use lib.Seq.{getD-at, getD-append-add, ext-getD}
 use borrow.Author.Tests.{ltb-false}
 use Rattle.words.specs.Below.{lowest}
 use Rattle.words.proofs.Below.{lowest-le}
-use Rattle.lines.specs.Over.{over}
+use Rattle.lines.specs.Over.{overlaid}
 use Rattle.lines.specs.Text.{digitsOf, decimal, textOf}
 use Rattle.table.specs.Limits.{Limits}
 use Rattle.table.specs.Rules.{rolesBroken}
@@ -90,7 +90,7 @@ text-long [] = omega arith
 text-long (n ∷ []) = simp length-append (omega (arith, decimal-long n))
 text-long (n ∷ m ∷ ns) = simp length-append (omega (arith, decimal-long n, text-long (m ∷ ns)))
 
-pub text-put : (ns old out : List ℕ) (r : ℕ) → length ns * 11 ≤ length old → r ≡ min (length (textOf ns)) (length old) → out ≡ over 0 (textOf ns) old
+pub text-put : (ns old out : List ℕ) (r : ℕ) → length ns * 11 ≤ length old → r ≡ min (length (textOf ns)) (length old) → out ≡ overlaid 0 (textOf ns) old
     → (take r out ≡ textOf ns) × (r ≡ length (textOf ns))
 text-put ns old out r room e f =
     let all : length (textOf ns) ≤ length old = omega (arith, text-long ns) in
