@@ -76,13 +76,13 @@ module _ (ts : List ℕ) (roles rows p start : ℕ) {t : Bool} (at : start ≡ p
 -- what the sizes say
 pub record Sized (ts : List ℕ) (roles rows : ℕ) : Type 0 where
   pub roles_good : roles_broken base roles ≡ false
-  pub sizes_good_lem : sizes_good base ts roles ≡ true
+  pub sizes_hold : sizes_good base ts roles ≡ true
   pub rows_are : rows ≡ block_rows ts roles
 
 sized : (ts : List ℕ) (roles rows : ℕ) (a b : Bool) → roles_broken base roles ≡ a → sizes_good base ts roles ≡ b
     → rows ≡ cond (not a && b) (block_rows ts roles) 0 → (rows ≡ 0 → ⊥) → Sized ts roles rows
 sized ts roles rows true b f g e h = absurd (h e)
-sized ts roles rows false true f g e h = record { roles_good = f; sizes_good_lem = g; rows_are = e }
+sized ts roles rows false true f g e h = record { roles_good = f; sizes_hold = g; rows_are = e }
 sized ts roles rows false false f g e h = absurd (h e)
 
 pub sized_some : (ts : List ℕ) (roles rows : ℕ) → rows ≡ sized_rows base ts roles → (rows ≡ 0 → ⊥) → Sized ts roles rows
@@ -105,7 +105,7 @@ sized_none ts roles e = sized_not ts roles (not (roles_broken base roles) && siz
 pub sized_bounds : (ts : List ℕ) (roles rows : ℕ) → Sized ts roles rows → (2 ≤ roles) × (roles ≤ 8) × (0 < rows) × (rows ≤ 256) × (roles * rows * 4 ≡ length ts)
 sized_bounds ts roles rows s =
     let (lo, hi) = roles_in_lem roles s.roles_good in
-    let (ab, most) = both (eqb (roles * block_rows ts roles * 4) (length ts) && ltb 0 (block_rows ts roles)) (leb (block_rows ts roles) 256) s.sizes_good in
+    let (ab, most) = both (eqb (roles * block_rows ts roles * 4) (length ts) && ltb 0 (block_rows ts roles)) (leb (block_rows ts roles) 256) s.sizes_hold in
     let (len, some) = both (eqb (roles * block_rows ts roles * 4) (length ts)) (ltb 0 (block_rows ts roles)) ab in
     rw s.rows_are (lo, hi, ltb-true _ _ some, leb-true _ _ most, eqb-true _ _ len)
 
@@ -113,7 +113,7 @@ sized_bounds ts roles rows s =
 module _ (ts : List ℕ) (roles rows : ℕ) (s : Sized ts roles rows) where
   tables_are : tables_good base ts roles ≡ every (λ p. every (λ i. row_good_at base ts roles rows (p * rows) p i) rows) roles
   unfolding tables_good
-  tables_are = rw (s.roles_good, s.sizes_good, s.rows_are) (blocks_at base ts roles)
+  tables_are = rw (s.roles_good, s.sizes_hold, s.rows_are) (blocks_at base ts roles)
 
   pub rows_good : (t : Bool) → t ≡ every (λ p. every (λ i. row_good_at base ts roles rows (p * rows) p i) rows) roles → cond t rows 0 ≡ good_rows base ts roles
   rows_good t e = rw (tables_are, ← e, ← s.rows_are)

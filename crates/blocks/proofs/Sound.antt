@@ -26,7 +26,7 @@ unfolding tables_good
 good_sized ts roles e =
     let (ab, blocks) = both (not (roles_broken base roles) && sizes_good base ts roles) _ e in
     let (a, b) = both (not (roles_broken base roles)) (sizes_good base ts roles) ab in
-    record { roles_good = not-true (roles_broken base roles) a; sizes_good_lem = b; rows_are = refl }
+    record { roles_good = not-true (roles_broken base roles) a; sizes_hold = b; rows_are = refl }
 
 module _ (ts : List ℕ) (roles : ℕ) (good : tables_good base ts roles ≡ true) (r : ℕ) (present : r < roles) where
   row_good_lem : (i : ℕ) → i < block_rows ts roles → row_good base ts roles r i ≡ true

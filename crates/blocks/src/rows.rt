@@ -8,7 +8,7 @@ ghost use Rattle.blocks.specs.mirror.Rows.{words, no_words, said, follow_at, cha
 use table::Table;
 
 // The first word decides what the other three hold.
-#[derive(Drop)]
+#[derive(Clone, Copy)]
 pub struct Row {
     pub kind: u16,
     pub first: u16,
@@ -31,7 +31,7 @@ impl Row {
 }
 
 // The arm lookup's answer: the continuation, or, where the label is not among the arms, the lowest label that is.
-#[derive(Drop)]
+#[derive(Clone, Copy)]
 pub enum Found {
     At(u16),
     Nothing(u16),

@@ -9,7 +9,7 @@ ghost use Rattle.hours.specs.Promises.{Reports};
 
 // One moment of the log: the minute, whether the car is awake from then on, and the roles awaited after that moment's call (role r is the
 // digit of weight 2 to the r).
-#[derive(Drop)]
+#[derive(Clone, Copy)]
 pub struct Record {
     pub minute: u32,
     pub awake: bool,

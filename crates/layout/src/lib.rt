@@ -1,18 +1,20 @@
 // The codes of a part written as rows of four words.
+#![tactic(auto)]
+
 ghost use Rattle.std.specs.Prelude.{◌≡◌, ◌+◌, ◌-◌, ◌*◌, ◌<◌, ◌≤◌, set};
 ghost use Rattle.layout.specs.mirror.Lay.{LIMIT, inside, InRange, loop_row, next_row, open_arm, close_arm, resume, put_loop, put_last, last_row, put_action, run_s, rest, clear_s, lay_out};
 
 use parts::{ARM, BACK, END, KINDS, LOOP, MARK};
 
 // Where the codes and the rows of a part end.
-#[derive(Drop)]
+#[derive(Clone, Copy)]
 struct Laid {
     code: usize,
     row: usize,
 }
 
 // Where a turn stands: its code and its row, the Loops around, the arm that waits, as 1 + its row or 0 for none, and the codes left.
-#[derive(Drop)]
+#[derive(Clone, Copy)]
 struct Walk {
     code: usize,
     row: usize,
@@ -22,7 +24,7 @@ struct Walk {
 }
 
 // What goes on behind the end of a part: the Loops around, the arm that waits next, and the codes left.
-#[derive(Drop)]
+#[derive(Clone, Copy)]
 struct Resumed {
     depth: usize,
     wait: usize,

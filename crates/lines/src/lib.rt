@@ -1,4 +1,6 @@
 // Lines of decimal numbers: read, fitted into narrower kinds, written. No function here has a `requires`.
+#![tactic(auto)]
+
 mod fit;
 mod read;
 mod write;

@@ -4,14 +4,14 @@ ghost use Rattle.lines.specs.Promises.{Puts, Reads};
 ghost use Rattle.lines.specs.mirror.Places.{digit_of, step_of, ended_of, whole_of};
 
 // How many numbers a line has.
-#[derive(Drop)]
+#[derive(Clone, Copy)]
 pub enum Count {
     Of(usize),
     Malformed,
 }
 
 // Where the reader stands: after the letter, after a blank, in a number, or past a byte that must not be there.
-#[derive(Drop)]
+#[derive(Clone, Copy)]
 enum Place {
     Letter,
     Blank,

@@ -1,6 +1,8 @@
 // The merge of two parts. A part is one word a row in the order met, a kind and an argument (specs/mirror/Codes.antt of parts), with a mark
 // behind an action's last arm. Every place is tested before use, so no sum wraps, whatever the words are, and no merge has more words than
 // MOST. What these functions do with the words of parts is proved in proofs/Meaning.antt and Joins.antt.
+#![tactic(auto)]
+
 ghost use Rattle.std.specs.Prelude.{◌≡◌, cond, ◌<◌, ◌≤◌, length};
 ghost use Rattle.merge.specs.mirror.Merging.{inside, kids, copy_of, equal_rule, arm_rule, rule, step_of, step_out, both_ok, merge_of, put_on, behind_of, comes_first, behind_arms, skip_of, shares, common_on, closes, begin_of, put_marks, join_of};
 
@@ -11,7 +13,7 @@ use table::Table;
 const MOST: usize = Table::ROWS * 2;
 
 // How far a copy came: the places behind what it read, and behind what it wrote. `ok`: it is whole.
-#[derive(Drop)]
+#[derive(Clone, Copy)]
 struct Copied {
     ok: bool,
     end: usize,
@@ -19,7 +21,7 @@ struct Copied {
 }
 
 // How far a merge came: the places behind what it read on either side, and behind what it wrote. `ok`: it is whole.
-#[derive(Drop)]
+#[derive(Clone, Copy)]
 struct Merged {
     ok: bool,
     a: usize,
@@ -28,14 +30,14 @@ struct Merged {
 }
 
 // Whether there is a merge, and the place behind it.
-#[derive(Drop)]
+#[derive(Clone, Copy)]
 pub struct Joined {
     pub ok: bool,
     pub at: usize,
 }
 
 // The rule that two rows fall under, the places behind them, and the rows that remain.
-#[derive(Drop)]
+#[derive(Clone, Copy)]
 struct Step {
     rule: u8,
     a: usize,
@@ -45,7 +47,7 @@ struct Step {
 }
 
 // A place on either side, and how many actions both sides opened before it.
-#[derive(Drop)]
+#[derive(Clone, Copy)]
 struct Common {
     a: usize,
     b: usize,
@@ -53,7 +55,7 @@ struct Common {
 }
 
 // A place on either side.
-#[derive(Drop)]
+#[derive(Clone, Copy)]
 struct Places {
     a: usize,
     b: usize,

@@ -2,6 +2,8 @@
 // merge, projection and layout.
 
 // A part is one word a row in the order met, kind + KINDS x argument (specs/mirror/Codes.antt).
+#![tactic(auto)]
+
 pub const KINDS: u16 = 8;
 
 pub const END: u16 = 0;

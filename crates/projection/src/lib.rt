@@ -18,7 +18,7 @@ use parts::{ARM, BACK, END, KINDS, LOOP, MARK, RECEIVE, SEND};
 use table::{Row, Table, Verdict};
 
 // Whether there is a part, and the height of the stack with it.
-#[derive(Drop)]
+#[derive(Clone, Copy)]
 struct Projected {
     ok: bool,
     at: usize,
@@ -34,7 +34,7 @@ struct Plan {
 }
 
 // The row that a row leads on to, the height of the stack before its part, and how many marks are put behind its part.
-#[derive(Drop)]
+#[derive(Clone, Copy)]
 struct Step {
     row: usize,
     at: usize,
@@ -42,7 +42,7 @@ struct Step {
 }
 
 // A plan, the height of the stack before its part, how many marks are put behind it, and how many links are left to follow.
-#[derive(Drop)]
+#[derive(Clone, Copy)]
 struct Way {
     case: u8,
     word: u16,
@@ -53,7 +53,7 @@ struct Way {
 }
 
 // An arm: its word, its continuation and the arm after it in the chain, 0 for none.
-#[derive(Drop)]
+#[derive(Clone, Copy)]
 struct Arm {
     word: u16,
     cont: usize,

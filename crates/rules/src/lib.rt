@@ -1,4 +1,6 @@
 // The check of a table: rules 1, 2 and 4 to 10 in order, each naming the lowest row that breaks it.
+#![tactic(auto)]
+
 ghost use Rattle.std.specs.Prelude.{◌≡◌, cond, ◌+◌, ◌≤◌, ◌<◌, get_or, set};
 ghost use Rattle.words.specs.Rows.{rows_of};
 ghost use Rattle.words.specs.Below.{one};

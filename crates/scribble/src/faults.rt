@@ -3,7 +3,7 @@ ghost use Rattle.std.specs.Prelude.{◌≡◌};
 ghost use Rattle.scribble.specs.mirror.Least.{noted};
 
 // Its place and its number; number 0 for none.
-#[derive(Drop)]
+#[derive(Clone, Copy)]
 pub struct Blamed {
     pub place: usize,
     pub number: u8,

@@ -6,7 +6,7 @@ ghost use Rattle.scribble.specs.mirror.Starts.{name_from};
 
 use crate::{names, scan};
 
-#[derive(Drop)]
+#[derive(Clone, Copy)]
 pub struct Token {
     pub sort: u8,
     pub start: usize,

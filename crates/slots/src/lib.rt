@@ -1,4 +1,6 @@
 // One pair's four slots in a column of the state, taken and returned by value: a message put behind the others, the oldest taken out.
+#![tactic(auto)]
+
 ghost use Rattle.std.specs.Prelude.{◌≡◌, ◌*◌, ◌<◌};
 ghost use Rattle.table.specs.Limits.{base};
 ghost use Rattle.slots.specs.mirror.Slots.{pairs, slots, written, pushed_at, oldest, came_forward};

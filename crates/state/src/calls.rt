@@ -15,7 +15,7 @@ use slots::{Counts, DEPTH, Heads, Labels, Payloads};
 use table::Table;
 
 // Rules 12 and 13: the number of the first that is broken, or 0. And how many rows each block has, 0 if the tables are not good.
-#[derive(Drop)]
+#[derive(Clone, Copy)]
 struct Ground {
     number: u8,
     rows: usize,
@@ -175,7 +175,7 @@ fn awaited_set<'a>(
 }
 
 // The number of rule 12 or 13 and no roles; or 0 and the roles that have a call which would be accepted.
-#[derive(Drop)]
+#[derive(Clone, Copy)]
 pub struct Waiting {
     pub number: u8,
     pub set: u8,

@@ -7,7 +7,7 @@ ghost use Rattle.std.specs.Prelude.{◌≡◌, ◌<◌};
 
 // A call is refused with a number, or for its label with a number and the lowest label that the head offers, or the role that made it moves to
 // that row.
-#[derive(Drop)]
+#[derive(Clone, Copy)]
 pub enum Turn {
     Refused(u8),
     Offered(u8, u16),

@@ -1,4 +1,6 @@
 // The global protocol table: its limits, and the rules that a table's size and a row's own words keep.
+#![tactic(auto)]
+
 ghost use Rattle.std.specs.Prelude.{◌≡◌};
 ghost use Rattle.table.specs.Limits.{base};
 ghost use Rattle.table.specs.Rows.{row as row_at};
@@ -48,7 +50,7 @@ impl Table {
 }
 
 // What a check or an opening says: document 01's number, and the row or role that it names.
-#[derive(Drop)]
+#[derive(Clone, Copy)]
 pub struct Verdict {
     pub number: u8,
     pub place: usize,
@@ -81,7 +83,7 @@ impl Verdict {
 }
 
 // A row's four words.
-#[derive(Drop)]
+#[derive(Clone, Copy)]
 pub struct Row {
     pub kind: u16,
     pub first: usize,

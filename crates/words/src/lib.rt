@@ -1,4 +1,6 @@
 // Rows of four 16-bit words in a lent slice: reads and writes that are right for any slice and any row.
+#![tactic(auto)]
+
 ghost use Rattle.std.specs.Prelude.{◌≡◌, ◌<◌, get_or, set};
 ghost use Rattle.words.specs.Rows.{word, put_row};
 
@@ -40,6 +42,7 @@ pub fn wide(x: u16) -> usize
 }
 
 // The row holds these four words; nothing is done where it is not wholly inside.
+#[tactic(auto, unfolding(crate::specs::Rows::put_row))]
 pub fn put_row(ws: &mut [u16], row: usize, a: u16, b: u16, c: u16, d: u16)
     ensures { ws.new ≡ put_row ws.old row a b c d }
 {

@@ -1,0 +1,17 @@
+-- `rows::head` meets its contract. The loop's invariant: what is left to follow from here is what was to follow. Assumes nothing.
+use Prim.Native.Nat.{◌-◌, suc}
+use borrow.Author.Rules.{rules}
+use mathlib.Core.Path.{◌≡◌, refl, sym, ◌∙◌}
+use mathlib.Core.Logic.{⊎_elim}
+use native.Mathlib.Omega.{arith}
+use Rattle.blocks.specs.mirror.Rows.{follow_at}
+use Rattle.blocks.proofs.Walk.{follow_loop, follow_back, follow_stays, follow_no_more}
+use Rattle.blocks.proofs.rows.head.Goals as goal
+
+pub returns-in_default : goal.returns-in_default
+returns-in_default c =
+    let e : c.loop-left.left ≡ suc (c.loop-left.left - 1) = omega arith in
+    sym (c.loop-left.invariant ∙ follow_stays c.args.tables.now c.args.start e c.wide.ensures.0 c.row_at-part.ensures c.in_default.in_default-own.rest.0.1 c.in_default.in_default-own.rest.1)
+
+pub returns : goal.returns
+returns c = sym (c.loop-left.invariant ∙ follow_no_more _ _ _ (omega arith))

@@ -1,0 +1,31 @@
+-- `tables::blocks_good` meets its contract. The loop's invariant: every block before this one is good, and what is noted is right. Assumes nothing.
+use Prim.Native.Nat.{ℕ, ◌-◌, ◌<◌, ◌≤◌, ◌*◌}
+use mathlib.Core.Bool.{true}
+use mathlib.Core.Path.{◌≡◌, sym, ◌∙◌}
+use native.Mathlib.Nat.{add-mul, zero-mul}
+use native.Mathlib.Omega.{arith}
+use lib.ListN.{length, length-replicate}
+use borrow.Author.Count.{below_none, below_more}
+use Rattle.words.specs.Below.{every}
+use Rattle.words.proofs.Below.{every_all, every_fails}
+use Rattle.table.specs.Limits.{base}
+use Rattle.blocks.specs.mirror.Tables.{row_good_at}
+use Rattle.blocks.specs.mirror.Heads.{Noted}
+use Rattle.blocks.proofs.Far.{noted_none, noted_next}
+use Rattle.blocks.proofs.Good.{block_not, block_good}
+use Rattle.blocks.proofs.tables.blocks_good.Goals as goal
+
+pub loop-role-init : goal.loop-role-init
+loop-role-init c = (omega arith, omega (arith, zero-mul c.args.rows), omega arith, below_none _, noted_none _ _ c.requires.1, length-replicate {A = ℕ} 256 0)
+
+pub slice_bounds-block_good-end : goal.slice_bounds-block_good-end
+slice_bounds-block_good-end c = sym c.loop-role.invariant.5
+
+pub block_good-requires : goal.block_good-requires
+block_good-requires c = let inv = c.loop-role.invariant in let p = c.requires in (p.1, omega (arith, inv.2, p.0, inv.0), inv.4)
+
+pub overflow_add-start : goal.overflow_add-start
+overflow_add-start c = omega (arith, c.loop-role.invariant.2, c.requires)
+
+pub returns : goal.returns
+returns c = sym (every_all _ _ (λ k l. c.loop-role.invariant.3 k (omega arith)))

@@ -1,0 +1,6 @@
+-- `tables::is_peer` meets its contract. Assumes nothing.
+use borrow.Author.Rules.{rules}
+use Rattle.blocks.proofs.tables.is_peer.Goals as goal
+
+pub returns : goal.returns
+returns c = rw c.wide-other.ensures.0

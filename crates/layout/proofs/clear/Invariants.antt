@@ -1,0 +1,16 @@
+-- `layout::clear` meets its contract. The loop's invariant: the rows passed hold zeros. Assumes nothing.
+use Prim.Native.Nat.{◌+◌, ◌-◌, ◌≤◌}
+use mathlib.Core.Path.{◌≡◌, refl}
+use lib.ListN.{length}
+use native.Mathlib.Omega.{arith}
+use borrow.Author.Rules.{rules}
+use Rattle.layout.specs.mirror.Lay.{clear_s}
+use Rattle.layout.proofs.Lays.{clear_none, clear_more}
+use Rattle.layout.proofs.clear.Given as goal
+
+abbrev pub invariant-loop-row : goal.invariant-loop-row
+invariant-loop-row l =
+    (l.out ≡ clear_s l.initial.out (l.from + l.first) (l.row - l.first)) × (l.first ≤ l.row) × (l.row - l.first ≤ l.rows - l.first) × (length l.out ≡ length l.initial.out)
+
+abbrev pub decreases-loop-row : goal.decreases-loop-row
+decreases-loop-row l = l.rows - l.row

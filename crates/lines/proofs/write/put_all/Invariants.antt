@@ -1,0 +1,14 @@
+-- `lines::write::put_all` meets its contract: what is left to write comes to the same as all from the start. Assumes nothing.
+use Prim.Native.Nat.{◌≤◌, ◌-◌}
+use mathlib.Core.Path.{◌≡◌, refl}
+use native.Mathlib.Omega.{arith}
+use lib.ListN.{length, drop, drop_of_length-le}
+use borrow.Author.Rules.{rules}
+use Rattle.lines.proofs.Stores.{Same, start, then, one_written, all_written}
+use Rattle.lines.proofs.write.put_all.Given as goal
+
+abbrev pub invariant-loop-i : goal.invariant-loop-i
+invariant-loop-i l = (l.i ≤ length l.bytes) × (length l.out ≡ length l.initial.out) × Same l.out l.end (drop l.i l.bytes) l.initial.out l.at l.bytes
+
+abbrev pub decreases-loop-i : goal.decreases-loop-i
+decreases-loop-i l = length l.bytes - l.i

@@ -1,0 +1,6 @@
+-- `merge::comes_first` meets its contract. Assumes nothing.
+use borrow.Author.Rules.{rules}
+use Rattle.merge.proofs.comes_first.Goals as goal
+
+pub returns : goal.returns
+returns c = rw c.peek-w.ensures

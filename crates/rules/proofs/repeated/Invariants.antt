@@ -1,0 +1,24 @@
+-- `rules::repeated` meets its contract. The invariants: the walk is at the chain's arm of that number, no arm before it repeats a label, and
+-- no arm before the one compared with has its label. Assumes nothing.
+use Prim.Native.Nat.{ℕ, ◌≤◌, ◌<◌, ◌-◌}
+use mathlib.Core.Path.{◌≡◌, ◌∙◌, refl}
+use mathlib.Core.Bool.{false}
+use native.Mathlib.Omega.{arith}
+use borrow.Author.Count.{below_none, below_more}
+use borrow.Author.Tests.{eq-eqb, ne_eqb}
+use Rattle.words.specs.Rows.{rows_of}
+use Rattle.rules.specs.mirror.Chain.{nth, stops}
+use Rattle.rules.proofs.Chain.{same, next_row, ended, found, goes_on, same_is, still}
+use Rattle.rules.proofs.repeated.Given as goal
+
+abbrev pub invariant-loop-i : goal.invariant-loop-i
+invariant-loop-i l = (l.earlier ≡ nth l.words l.first l.i) × (l.i ≤ l.passed) × ((m : ℕ) → m < l.i → same l.words l.first l.passed m ≡ false)
+
+abbrev pub decreases-loop-i : goal.decreases-loop-i
+decreases-loop-i l = l.passed - l.i
+
+abbrev pub invariant-chain : goal.invariant-chain
+invariant-chain l = (l.row ≡ nth l.words l.first l.passed) × (l.passed ≤ rows_of l.words) × ((k : ℕ) → k < l.passed → stops l.words l.first k ≡ false)
+
+abbrev pub decreases-chain : goal.decreases-chain
+decreases-chain l = rows_of l.words - l.passed

@@ -1,0 +1,7 @@
+-- `rules::unbound_broken` meets its contract: only a Back is asked. Assumes nothing.
+use borrow.Author.Rules.{rules}
+use Rattle.table.proofs.Rows.{of_back_lem, row_read}
+use Rattle.rules.proofs.unbound_broken.Goals as goal
+
+pub returns : goal.returns
+returns c = rw (row_read _ _ c.read-this.ensures, of_back_lem, c.wide.ensures.0, c.requires.1)
