@@ -17,9 +17,6 @@ returns-then-out-at c = (omega arith, past_end _ _ _ (omega arith))
 pub loop-i-init : goal.loop-i-init
 loop-i-init c = (omega arith, refl, rw (add-zero c.args.at))
 
-pub overflow_cast-out : goal.overflow_cast-out
-overflow_cast-out c = omega (arith, c.shared_slice_known-in-loop-i-1.given c.loop-i.i)
-
 pub loop-i-preserved : goal.loop-i-preserved
 loop-i-preserved c =
     let was = c.loop-i in
