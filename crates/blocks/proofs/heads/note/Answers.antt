@@ -35,3 +35,16 @@ shape_of-noted c = c.loop-left.invariant.3
 
 pub returns : goal.returns
 returns c = c.loop-left.invariant.2
+
+pub loop-left-preserved : goal.loop-left-preserved
+loop-left-preserved c =
+    let (few, far, so, long) = c.loop-left.invariant in
+    let h : 0 < c.loop-left.left = ltb-true 0 _ (both (ltb 0 c.loop-left.left) _ c.loop-left-test.true).0 in
+    let ts = c.args.tables.now in
+    let start = c.args.start in
+    let leads = far_leads ts start c.loop-left.at c.row_at-part.ensures c.loop-left.left h far in (
+      omega arith,
+      rw c.wide-at.ensures.0 (far_on ts start c.loop-left.at _ c.loop-left.left h leads far),
+      rw (c.poke.ensures, c.narrow.ensures) (noted_put ts start c.args.rows c.loop-left.noted c.loop-left.at c.loop-left.left h few far so),
+      c.poke.auto.ws ∙ long,
+    )

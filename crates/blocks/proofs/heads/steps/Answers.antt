@@ -1,4 +1,5 @@
 -- `heads::steps` meets its contract. The invariant: the steps taken lead here, and whoever left the block shows that it is not good. Assumes nothing.
+use Rattle.blocks.proofs.heads.steps.Goals.{in-3, in-4}
 use Prim.Native.Nat.{◌-◌, ◌<◌, ◌≤◌}
 use mathlib.Core.Logic.{inr, ⊎_elim}
 use mathlib.Core.Path.{sym, ◌∙◌}
@@ -55,3 +56,25 @@ loop-at-smaller c =
 
 pub returns : goal.returns
 returns c = (λ h. absurd (omega arith), λ h. searched _ _ _ _ _ _ c.loop-at.invariant.1 c.loop-at.invariant.2 c.loop-at-test.false)
+
+pub loop-at-preserved : goal.loop-at-preserved
+loop-at-preserved c =
+    let turning : (c.loop-at.at < c.args.rows) × (c.loop-at.taken < c.args.rows) = searches _ _ _ c.loop-at-test.true in
+    let ts = c.args.tables.now in
+    let start = c.args.start in
+    let at = c.loop-at.at in
+    let read = c.row_at-part.ensures in
+    let inside = turning.0 in
+    let to = c.wide-at.ensures.0 in
+    elim c.match-kind.branch [
+      in-3 w ↦ (
+        omega arith,
+        rw to (came_on ts start _ _ at _ c.loop-at.invariant.1 (loop_leads ts start at read w.in-3.is)),
+        λ h. loop_out ts start _ at inside read (rw to at h) w.in-3.is,
+      )
+      | in-4 w ↦ (
+        omega arith,
+        rw to (came_on ts start _ _ at _ c.loop-at.invariant.1 (back_leads ts start at read w.in-4.is)),
+        λ h. back_out ts start _ at inside read (rw to at h) w.in-4.is,
+      )
+    ]

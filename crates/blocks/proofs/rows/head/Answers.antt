@@ -1,4 +1,5 @@
 -- `rows::head` meets its contract. The loop's invariant: what is left to follow from here is what was to follow. Assumes nothing.
+use Rattle.blocks.proofs.rows.head.Goals.{in-3, in-4}
 use Prim.Native.Nat.{◌-◌, suc}
 use borrow.Author.Rules.{rules}
 use mathlib.Core.Path.{◌≡◌, refl, sym, ◌∙◌}
@@ -15,3 +16,11 @@ returns-in_default c =
 
 pub returns : goal.returns
 returns c = sym (c.loop-left.invariant ∙ follow_no_more _ _ _ (omega arith))
+
+pub loop-left-preserved : goal.loop-left-preserved
+loop-left-preserved c =
+    let e : c.loop-left.left ≡ suc (c.loop-left.left - 1) = omega arith in
+    elim c.match-kind.branch [
+      in-3 w ↦ rw w.at-is (c.loop-left.invariant ∙ follow_loop c.args.tables.now c.args.start e c.wide.ensures.0 c.row_at-part.ensures w.in-3.is)
+      | in-4 w ↦ rw w.at-is (c.loop-left.invariant ∙ follow_back c.args.tables.now c.args.start e c.wide.ensures.0 c.row_at-part.ensures w.in-4.is)
+    ]

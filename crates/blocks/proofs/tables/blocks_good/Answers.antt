@@ -1,4 +1,6 @@
 -- `tables::blocks_good` meets its contract. The loop's invariant: every block before this one is good, and what is noted is right. Assumes nothing.
+use mathlib.Core.Bool.{not}
+use mathlib.Core.Path.{ap}
 use Prim.Native.Nat.{ℕ, ◌-◌, ◌<◌, ◌≤◌, ◌*◌}
 use mathlib.Core.Bool.{true}
 use mathlib.Core.Path.{◌≡◌, sym, ◌∙◌}
@@ -29,3 +31,7 @@ overflow_add-start c = omega (arith, c.loop-role.invariant.2, c.requires)
 
 pub returns : goal.returns
 returns c = sym (every_all _ _ (λ k l. c.loop-role.invariant.3 k (omega arith)))
+
+pub returns-then-not-block_good : goal.returns-then-not-block_good
+returns-then-not-block_good c =
+    sym (every_fails _ _ c.loop-role.role c.loop-role-test.true (block_not _ _ _ _ _ c.loop-role.invariant.1 c.block_good.ensures.0 (ap not c.if-not-block_good.true)))
