@@ -1,6 +1,8 @@
 // The parts of the roles: a projection that goes on to higher rows and calls the merge. A part is one word a row in the order met, kind + 8 x
 // argument (specs/mirror/Codes.antt of parts). `work` is a stack of such words, with `at` its height; `spare` is lent to the merges. What every
 // role needs of the table is found once: `kept`, the roles that stay in each Loop, and `order`, the arms of each chain in rising label order.
+#![tactic(auto)]
+
 mod chains;
 mod reach;
 

@@ -157,7 +157,7 @@ ranged_faults lim (protocol m n rs b) =
 ranged_soonest : (f : Fault) {fs : List Fault} → InRange f.number → Ranged fs → InRange (soonest f fs).number
 unfolding soonest
 ranged_soonest f p none_ranged = p
-ranged_soonest f p (one_ranged {f = g} q a) = ranged_soonest _ (by (sooner g f)) a
+ranged_soonest f p (one_ranged {f = g} q a) = ranged_soonest (cond (sooner g f) g f) (by (sooner g f)) a
   where
     by : (t : Bool) → InRange (cond t g f).number
     by true = q

@@ -1,4 +1,6 @@
 // A state's arrays: rule 13, and the tests of the calls.
+#![tactic(auto)]
+
 pub mod calls;
 mod formed;
 mod turns;

@@ -1,0 +1,15 @@
+-- `projection::close` meets its contract. Assumes nothing.
+use Prim.Native.Nat.{◌-◌, ◌≤◌}
+use mathlib.Core.Path.{◌≡◌, refl, ◌∙◌}
+use native.Mathlib.Omega.{arith}
+use borrow.Author.Rules.{rules}
+use lib.ListN.{length}
+use Rattle.projection.specs.mirror.Projects.{Closed}
+use Rattle.projection.proofs.Walks.{closed_none, closed_more, closed_all}
+use Rattle.projection.proofs.close.Given as goal
+
+abbrev pub invariant-loop-more : goal.invariant-loop-more
+invariant-loop-more l = (l.more ≤ l.marks) × (length l.work ≡ length l.initial.work) × Closed (l.marks - l.more) l.initial.work l.at l.work l.top
+
+abbrev pub decreases-loop-more : goal.decreases-loop-more
+decreases-loop-more l = l.more
