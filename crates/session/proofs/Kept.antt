@@ -268,12 +268,12 @@ module _ (ts : List ℕ) (roles p q : ℕ) (s : Session) (shaped : Shaped s) whe
   pub send_keeps : (l v : ℕ) → (send_of base ts roles p q l v s).number ≡ 0 → state_good base ts roles (send_of base ts roles p q l v s).state ≡ true
   send_keeps l v e =
       let (h, t, is) = send_accepted ts roles p q s l v e in
-      let good = t.stood.state_good in
+      let good = t.stood.state_holds in
       let (ip, iq, ne) = pair_in roles p q t.two in
-      let holds = row_holds_lem ts roles t.stood.tables_good p ip in
+      let holds = row_holds_lem ts roles t.stood.tables_hold p ip in
       let lands : h ≡ head ts roles p t.sent.continuation = t.sent.lands ∙ sym (head_at ts roles p t.sent.continuation) in
       let inside : h < block_rows ts roles = rw lands (head_in base ts roles p holds t.sent.continuation t.reached.inside) in
-      let stands : is_head (part_row ts roles p h) ≡ true = rw lands (row_headed ts roles t.stood.tables_good p ip t.sent.continuation t.reached.inside t.reached.no_arm) in
+      let stands : is_head (part_row ts roles p h) ≡ true = rw lands (row_headed ts roles t.stood.tables_hold p ip t.sent.continuation t.reached.inside t.reached.no_arm) in
       rw is
       (state_from ts roles (listed (moved (pushed base s p q l v) p h))
       (λ r lr. moved_heads ts roles s shaped good p h ip t.p_low inside stands r lr (moved (pushed base s p q l v) p h) refl)
@@ -289,12 +289,12 @@ module _ (ts : List ℕ) (roles p q : ℕ) (s : Session) (shaped : Shaped s) whe
   pub receive_keeps : (receive_of base ts roles p q s).number ≡ 0 → state_good base ts roles (receive_of base ts roles p q s).state ≡ true
   receive_keeps e =
       let (h, t, is) = receive_accepted ts roles p q s e in
-      let good = t.stood.state_good in
+      let good = t.stood.state_holds in
       let (ip, iq, ne) = pair_in roles p q t.two in
-      let holds = row_holds_lem ts roles t.stood.tables_good q iq in
+      let holds = row_holds_lem ts roles t.stood.tables_hold q iq in
       let lands : h ≡ head ts roles q t.received.continuation = t.received.lands ∙ sym (head_at ts roles q t.received.continuation) in
       let inside : h < block_rows ts roles = rw lands (head_in base ts roles q holds t.received.continuation t.reached.inside) in
-      let stands : is_head (part_row ts roles q h) ≡ true = rw lands (row_headed ts roles t.stood.tables_good q iq t.received.continuation t.reached.inside t.reached.no_arm) in
+      let stands : is_head (part_row ts roles q h) ≡ true = rw lands (row_headed ts roles t.stood.tables_hold q iq t.received.continuation t.reached.inside t.reached.no_arm) in
       rw is
       (state_from ts roles (listed (moved (taken base s p q) q h))
       (λ r lr. moved_heads ts roles s shaped good q h iq t.q_low inside stands r lr (moved (taken base s p q) q h) refl)

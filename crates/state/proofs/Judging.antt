@@ -26,8 +26,8 @@ use Rattle.state.proofs.Sound.{pair_in}
 
 -- what a call that rules 12 and 13 let pass stands on
 pub record Stood (ts : List ℕ) (roles rows : ℕ) (s : State) : Type 0 where
-  pub tables_good_lem : tables_good base ts roles ≡ true
-  pub state_good_lem : state_good base ts roles s ≡ true
+  pub tables_hold : tables_good base ts roles ≡ true
+  pub state_holds : state_good base ts roles s ≡ true
   pub rows_are : rows ≡ block_rows ts roles
 
 module _ (ts : List ℕ) (roles : ℕ) (s : State) {g : Ground} (read : g ≡ ground_of base ts roles s) where
@@ -41,7 +41,7 @@ module _ (ts : List ℕ) (roles : ℕ) (s : State) {g : Ground} (read : g ≡ gr
     where
       decide : (a b : Bool) → tables_good base ts roles ≡ a → state_good base ts roles s ≡ b → g.number ≡ cond (not a) 12 (cond (not b) 13 0)
           → g.rows ≡ cond a (block_rows ts roles) 0 → Stood ts roles g.rows s
-      decide true true ea eb e r = record { tables_good_lem = ea; state_good_lem = eb; rows_are = r }
+      decide true true ea eb e r = record { tables_hold = ea; state_holds = eb; rows_are = r }
       decide true false ea eb e r = absurd (let x : 13 ≡ 0 = sym e ∙ z in omega arith)
       decide false b ea eb e r = absurd (let x : 12 ≡ 0 = sym e ∙ z in omega arith)
 
@@ -54,7 +54,7 @@ start_low r rows l m =
 module _ (ts : List ℕ) (roles rows : ℕ) (s : State) (st : Stood ts roles rows s) where
   pub stood_bounds : (2 ≤ roles) × (roles ≤ 8) × (rows ≤ 256)
   stood_bounds =
-      let b = sized_bounds ts roles (block_rows ts roles) (good_sized ts roles st.tables_good) in
+      let b = sized_bounds ts roles (block_rows ts roles) (good_sized ts roles st.tables_hold) in
       (b.0, b.1, omega (arith, b.3, st.rows_are))
 
   pub stood_start : (r : ℕ) → r < roles → r * rows ≤ 2048
@@ -69,11 +69,11 @@ module _ (ts : List ℕ) (roles rows : ℕ) (s : State) (st : Stood ts roles row
 
   pub send_judged_lem : (p q l : ℕ) → are_pair roles p q ≡ true → send_from base ts rows p q l s (head_of s p) ≡ send_judged base ts roles p q l s
   unfolding send_judged
-  send_judged_lem p q l two = rw (st.tables_good, st.state_good, two, ← st.rows_are)
+  send_judged_lem p q l two = rw (st.tables_hold, st.state_holds, two, ← st.rows_are)
 
   pub receive_judged_lem : (p q : ℕ) → are_pair roles p q ≡ true → receive_from base ts rows p q s (head_of s q) ≡ receive_judged base ts roles p q s
   unfolding receive_judged
-  receive_judged_lem p q two = rw (st.tables_good, st.state_good, two, ← st.rows_are)
+  receive_judged_lem p q two = rw (st.tables_hold, st.state_holds, two, ← st.rows_are)
 
 -- ---- rule 14
 
@@ -117,4 +117,4 @@ module _ (ts : List ℕ) (roles : ℕ) (s : State) where
 
   pub waiting_accepted : {rows set : ℕ} → Stood ts roles rows s → set ≡ set_of (is_awaited base ts roles s) roles → record { number = 0; set = set } ≡ waiting_of base ts roles s
   unfolding waiting_of
-  waiting_accepted st e = rw (st.tables_good, st.state_good, e)
+  waiting_accepted st e = rw (st.tables_hold, st.state_holds, e)

@@ -90,7 +90,7 @@ judged_to ts roles p q s rest h e =
     let (a, e1) = passes (not (tables_good base ts roles)) 12 _ h e in
     let (b, e2) = passes (not (state_good base ts roles s)) 13 _ h e1 in
     let (c, e3) = passes (not (are_pair roles p q)) 14 rest h e2 in
-    (record { tables_good_lem = not-false _ a; state_good_lem = not-false _ b; rows_are = refl }, not-false _ c, e3)
+    (record { tables_hold = not-false _ a; state_holds = not-false _ b; rows_are = refl }, not-false _ c, e3)
 
 -- the head's row, the arm that was found, and where its continuation's head is
 pub record Sent (ts : List ℕ) (start rows q l count h : ℕ) (row : PartRow) : Type 0 where
@@ -178,8 +178,8 @@ module _ (ts : List ℕ) (roles p q : ℕ) (s : State) (h : ℕ) where
       let (ip, iq, ne) = pair_in roles p q two in
       let b = stood_bounds ts roles (block_rows ts roles) s st in
       let lp : p < 8 = omega (arith, b.1) in
-      let holds = row_holds_lem ts roles st.tables_good p ip in
-      let hs = head_stands ts roles s st.state_good p ip lp in
+      let holds = row_holds_lem ts roles st.tables_hold p ip in
+      let hs = head_stands ts roles s st.state_holds p ip lp in
       let row : row_holds base ts roles p (head_of s p) (Send q t.first t.spare) ≡ true = rw t.is at (holds (head_of s p) hs.0) in
       record {
         stood = st;
@@ -198,8 +198,8 @@ module _ (ts : List ℕ) (roles p q : ℕ) (s : State) (h : ℕ) where
       let (ip, iq, ne) = pair_in roles p q two in
       let b = stood_bounds ts roles (block_rows ts roles) s st in
       let lq : q < 8 = omega (arith, b.1) in
-      let holds = row_holds_lem ts roles st.tables_good q iq in
-      let hs = head_stands ts roles s st.state_good q iq lq in
+      let holds = row_holds_lem ts roles st.tables_hold q iq in
+      let hs = head_stands ts roles s st.state_holds q iq lq in
       let row : row_holds base ts roles q (head_of s q) (Receive p t.first t.spare) ≡ true = rw t.is at (holds (head_of s q) hs.0) in
       record {
         stood = st;

@@ -4,7 +4,7 @@ ghost use Rattle.table.specs.Limits.{base};
 ghost use Rattle.blocks.specs.Block.{Send, Receive};
 ghost use Rattle.blocks.specs.Head.{find};
 ghost use Rattle.blocks.specs.mirror.Rows.{said, chain_at};
-ghost use Rattle.state.specs.Awaited.{is_found_lem};
+ghost use Rattle.state.specs.Awaited.{is_found};
 ghost use Rattle.state.specs.mirror.State.{queues};
 ghost use Rattle.state.specs.mirror.Turns.{send_turn, receive_turn, acts_at, LowPeer};
 

@@ -13,7 +13,7 @@ pub awaited_set-set-requires : goal.awaited_set-set-requires
 awaited_set-set-requires c =
     let a = c.args in
     let st = ground_stands a.tables.now a.roles (state_of a.heads.now a.counts.now a.labels.now a.payloads.now) c.ground_of-ground.ensures c.if-ground-ne-ACCEPTED.false in
-    (st.rows_are, st.tables_good, st.state_good)
+    (st.rows_are, st.tables_hold, st.state_holds)
 
 pub returns : goal.returns
 returns c =

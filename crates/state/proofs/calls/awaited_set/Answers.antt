@@ -29,25 +29,6 @@ can_act-requires c =
     (state_of c.args.heads.now c.args.counts.now c.args.labels.now c.args.payloads.now)
     c.requires.0 c.loop-role.invariant.1 c.wide.ensures.0 c.row_at-part.ensures c.requires.1 c.requires.2 c.loop-role-test.true
 
-pub loop-role-preserved : goal.loop-role-preserved
-loop-role-preserved c =
-    let s = state_of c.args.heads.now c.args.counts.now c.args.labels.now c.args.payloads.now in
-    let p = is_awaited base c.args.tables.now c.args.roles s in
-    let r : ℕ = c.loop-role.role in
-    let e : c.can_act.result ≡ p r =
-    acts_read c.args.tables.now c.args.roles c.args.rows r c.loop-role.start s c.requires.0 c.loop-role.invariant.1 c.wide.ensures.0 c.row_at-part.ensures _ c.can_act.ensures in (
-      omega arith,
-      omega (arith, add-mul c.loop-role.role 1 c.args.rows),
-      omega arith,
-      omega arith,
-      omega arith,
-      rw add-one
-          (⊎_elim
-          (λ w. w.1 ∙ ap (λ (t : ℕ). bit_or t (1 * 2 ^ r % 2 ^ 8)) c.loop-role.invariant.5 ∙ set_or 8 p r (omega arith) (sym e ∙ w.0.taken))
-          (λ w. w.1 ∙ c.loop-role.invariant.5 ∙ set_not p r (sym e ∙ w.0.left))
-          c.if-can_act.branch),
-    )
-
 pub returns : goal.returns
 returns c =
     let s = state_of c.args.heads.now c.args.counts.now c.args.labels.now c.args.payloads.now in
