@@ -1,4 +1,5 @@
 -- `calls::awaited_set` meets its contract. The loop's invariant: the set holds the awaited roles below this one. Assumes nothing.
+use Rattle.state.proofs.calls.awaited_set.Goals.{then-can_act, else-can_act}
 use Prim.Native.Nat.{ℕ, ◌-◌, ◌≤◌, ◌*◌, ◌^◌, ◌%◌}
 use mathlib.Core.Logic.{⊎_elim}
 use mathlib.Core.Path.{◌≡◌, refl, sym, ◌∙◌, ap}
@@ -34,3 +35,22 @@ returns c =
     let s = state_of c.args.heads.now c.args.counts.now c.args.labels.now c.args.payloads.now in
     let e : c.loop-role.role ≡ c.args.roles = omega arith in
     c.loop-role.invariant.5 ∙ ap (set_of (is_awaited base c.args.tables.now c.args.roles s)) e
+
+pub loop-role-preserved : goal.loop-role-preserved
+loop-role-preserved c =
+    let s = state_of c.args.heads.now c.args.counts.now c.args.labels.now c.args.payloads.now in
+    let p = is_awaited base c.args.tables.now c.args.roles s in
+    let r : ℕ = c.loop-role.role in
+    let e : c.can_act.result ≡ p r =
+    acts_read c.args.tables.now c.args.roles c.args.rows r c.loop-role.start s c.requires.0 c.loop-role.invariant.1 c.wide.ensures.0 c.row_at-part.ensures _ c.can_act.ensures in (
+      omega arith,
+      omega (arith, add-mul c.loop-role.role 1 c.args.rows),
+      omega arith,
+      omega arith,
+      omega arith,
+      rw add-one
+          (elim c.if-can_act.branch [
+            then-can_act w ↦ w.set-is ∙ ap (λ (t : ℕ). bit_or t (1 * 2 ^ r % 2 ^ 8)) c.loop-role.invariant.5 ∙ set_or 8 p r (omega arith) (sym e ∙ w.if-can_act.true)
+            | else-can_act w ↦ w.set-is ∙ c.loop-role.invariant.5 ∙ set_not p r (sym e ∙ w.if-can_act.false)
+          ]),
+    )
