@@ -1,4 +1,6 @@
 // Sessions over opened tables: the state, and the answers of its calls.
+#![tactic(auto)]
+
 use blocks::rows::Found;
 use blocks::tables;
 use state::{Turn, calls};
