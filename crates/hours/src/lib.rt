@@ -1,4 +1,6 @@
 // The yearly report: the minutes from the first record of a log to the last, awake and asleep, and for whom.
+#![tactic(auto)]
+
 use table::Table;
 
 pub mod arrays;
@@ -17,7 +19,7 @@ pub struct Record {
 }
 
 // What a report says: the number, the record that it names, and the minutes.
-#[derive(Drop)]
+#[derive(Clone, Copy)]
 pub struct Figures {
     pub number: u8,
     pub place: usize,

@@ -9,7 +9,7 @@ use words::wide;
 
 // What is known after some records: the number and the record that it names; the minute of the latest record, and the sum that the minutes
 // since then go to; the sums. Sum 0 is the minutes before the first record, so that all of them together are the latest minute.
-#[derive(Drop)]
+#[derive(Clone, Copy)]
 pub struct Tally {
     pub number: u8,
     pub place: usize,

@@ -1,7 +1,9 @@
 // A state lent as four slices of any lengths: it is read in, and what a call leaves is put back.
+#![tactic(auto)]
+
 ghost use Rattle.std.specs.Prelude.{◌≡◌, ◌*◌, length};
 ghost use Rattle.table.specs.Limits.{base};
-ghost use Rattle.lent.specs.Slices.{is_state_lem, replaced, given_of};
+ghost use Rattle.lent.specs.Slices.{is_state, replaced, given_of};
 
 use session::Session;
 

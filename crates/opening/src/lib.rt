@@ -1,4 +1,6 @@
 // Opening a protocol table: rules 1 to 11 in order, and the room that is lent.
+#![tactic(auto)]
+
 pub mod marked;
 
 ghost use Rattle.std.specs.Prelude.{◌≡◌, ◌++◌, ◌*◌, ◌≤◌, length, drop};

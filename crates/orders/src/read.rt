@@ -2,7 +2,7 @@
 ghost use Rattle.std.specs.Prelude.{◌≡◌, true, ◌+◌, ◌-◌, get_or, take, drop, replicate};
 ghost use Rattle.table.specs.Limits.{base};
 ghost use Rattle.lines.specs.Over.{overlaid, fits, narrowed};
-ghost use Rattle.orders.specs.Orders.{pairs, slots, state_of, is_state_lem};
+ghost use Rattle.orders.specs.Orders.{pairs, slots, state_of, is_state};
 
 use session::Session;
 

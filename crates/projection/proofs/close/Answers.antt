@@ -20,7 +20,7 @@ loop-more-smaller c = omega (arith, c.loop-more-test.true)
 pub loop-more-preserved : goal.loop-more-preserved
 loop-more-preserved c =
     let (few, long, closed) = c.loop-more.invariant in
-    (omega arith, c.push-top.auto.0 ∙ long, closed_more (omega (arith, few, c.loop-more-test.true)) long closed c.push-top.ensures)
+    (omega arith, c.push-top.auto.work ∙ long, closed_more (omega (arith, few, c.loop-more-test.true)) long closed c.push-top.ensures)
 
 pub shape_of-work : goal.shape_of-work
 shape_of-work c = c.loop-more.invariant.1

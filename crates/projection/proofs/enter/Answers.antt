@@ -9,7 +9,7 @@ returns-in-1 c = rw c.in-1.is (enter_loop c.push.ensures)
 
 pub returns-in-2 : goal.returns-in-2
 returns-in-2 c =
-    rw c.in-2.is (enter_sole _ c.arm_at-arm.ensures c.push-arms.ensures c.push-in-2.ensures c.push-arms.auto.0)
+    rw c.in-2.is (enter_sole _ c.arm_at-arm.ensures c.push-arms.ensures c.push-in-2.ensures c.push-arms.auto.work)
 
 pub returns-in_default : goal.returns-in_default
 returns-in_default c =

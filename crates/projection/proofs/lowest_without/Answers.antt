@@ -18,14 +18,19 @@ overflow_add-words c =
     let few : rows_of c.args.table.now ≤ base.rows = (measured base _ _ (obeys base c.args.table.now c.args.roles c.requires.0).sizes).few in
     omega (arith, few)
 
+pub slice_bounds-spare-end : goal.slice_bounds-spare-end
+slice_bounds-spare-end c =
+    let few : rows_of c.args.table.now ≤ base.rows = (measured base _ _ (obeys base c.args.table.now c.args.roles c.requires.0).sizes).few in
+    omega (arith, few)
+
 pub returns : goal.returns
 returns c =
     let e = c.requires.0 in
     let few = (measured base _ _ (obeys base c.args.table.now c.args.roles e).sizes).few in
     c.put_all.ensures (record {
       checked = e;
-      c = c.fill.ensures _ e few;
-      c = c.fill-2.ensures _ e few;
+      keeps = c.fill.ensures _ e few;
+      orders = c.fill-2.ensures _ e few;
       fits = c.requires.1;
       spares = omega arith;
     })

@@ -17,18 +17,18 @@ pub loop-role-preserved : goal.loop-role-preserved
 loop-role-preserved c =
     let was = c.loop-role.invariant in (
       omega arith,
-      c.project-part.auto.1.1.1.1.1.0 ∙ was.1,
-      c.project-part.auto.1.1.1.1.1.1.1.0 ∙ was.2,
+      c.project-part.auto.work ∙ was.1,
+      c.project-part.auto.spare ∙ was.2,
       λ p. upto_more c.loop-role-test.true p was.1 was.2 (was.3 p) c.project-part.ensures c.if-part.true,
     )
 
 pub shape_of-work-else-part : goal.shape_of-work-else-part
 shape_of-work-else-part c =
-    c.project-part.auto.1.1.1.1.1.0 ∙ c.loop-role.invariant.1
+    c.project-part.auto.work ∙ c.loop-role.invariant.1
 
 pub shape_of-spare-else-part : goal.shape_of-spare-else-part
 shape_of-spare-else-part c =
-    c.project-part.auto.1.1.1.1.1.1.1.0 ∙ c.loop-role.invariant.2
+    c.project-part.auto.spare ∙ c.loop-role.invariant.2
 
 pub returns-else-part : goal.returns-else-part
 returns-else-part c = λ p.

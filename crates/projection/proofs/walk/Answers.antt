@@ -1,4 +1,6 @@
 -- `projection::walk` meets its contract. The invariant: the part of the first row is that of the row here, with words and marks around it. Assumes nothing.
+use mathlib.Core.Bool.{not}
+use mathlib.Core.Path.{ap}
 use native.Mathlib.Omega.{arith}
 use borrow.Author.Rules.{rules}
 use Rattle.projection.proofs.Walks.{Comes, comes_start, comes_on, walks, walks_nowhere}
@@ -12,7 +14,7 @@ shape_of-work-then-not-leads_on c = c.loop-more.invariant.long
 
 pub returns-then-not-leads_on : goal.returns-then-not-leads_on
 returns-then-not-leads_on c =
-    rw c.way_to.ensures (walks c.loop-more.invariant c.plan_at-plan.ensures c.leads_on.ensures c.if-not-leads_on.true)
+    rw c.way_to.ensures (walks c.loop-more.invariant c.plan_at-plan.ensures c.leads_on.ensures (ap not c.if-not-leads_on.true))
 
 pub overflow_add-marks : goal.overflow_add-marks
 overflow_add-marks c =
@@ -26,8 +28,8 @@ loop-more-smaller c = omega (arith, c.loop-more-test.true)
 
 pub loop-more-preserved : goal.loop-more-preserved
 loop-more-preserved c =
-    comes_on c.loop-more.invariant c.plan_at-plan.ensures c.leads_on.ensures c.if-not-leads_on.false c.enter-step.ensures
-    c.enter-step.auto.1.1.0 (omega (arith, c.loop-more-test.true))
+    comes_on c.loop-more.invariant c.plan_at-plan.ensures c.leads_on.ensures (ap not c.if-not-leads_on.false) c.enter-step.ensures
+    c.enter-step.auto.work (omega (arith, c.loop-more-test.true))
 
 pub shape_of-work : goal.shape_of-work
 shape_of-work c = c.loop-more.invariant.long

@@ -39,7 +39,6 @@ use denote.Index.{place_is, elem_out, elem_back, looks_slice, shuts_slice}
 use denote.Signature.{plain}
 use denote.Steps.{only, nothing, owned, peeks, heard}
 use denote.Struct.Laws as LL
-use denote.Triple.Statement.{Contract, Triple}
 use denote.Triple.Call.{calls_at}
 use denote.Triple.Entry.{Vals, on_entry}
 use denote.Triple.Clauses.{ensured, lasts}
@@ -82,6 +81,7 @@ use Rattle.hours.specs.contracts.report as report
 use Rattle.hours.proofs.report.Statement as stated
 use Rattle.hours.proofs.report.Code as code
 use Rattle.hours.proofs.report.Code.Mir as body
+use Rattle.hours.proofs.report.Goals as goal
 
 abbrev Arg : Type 0
 Arg = Bor (List Record) × (ℕ × Unit {0})
@@ -413,15 +413,3 @@ module _ {M : Type 1} {𝓤 : Ura M} (𝓛 : Logic 𝓤) (mem : Memory → SProp
 report_meets : {M : Type 1} {𝓤 : Ura M} (𝓛 : Logic 𝓤) (mem : Memory → SProp 𝓤) (run : Routine → Fun 𝓤) (𝓣 : Tables 𝓤 𝓛.H)
     → Known 𝓛 mem run 𝓣 → Meets 𝓛 report.signature (WpFn 𝓤 𝓛.H 𝓣.C 𝓣.Λ code.function) (report.spec 𝓛 mem run)
 report_meets {𝓤 = 𝓤} 𝓛 mem run 𝓣 known = walk_Meets 𝓛 report.ended stayed (Goes-none_slice 𝓛 1 (0 ∷ []) tt (plain (λ _. E.the_row)) yes, (Goes-none 𝓛 1 (λ _. usize) yes (λ κs x f. refl), tt)) (report.clauses 𝓛 mem run) (WpFn 𝓤 𝓛.H 𝓣.C 𝓣.Λ code.function) (WpFn-mono 𝓤 𝓛.H 𝓛.laws 𝓣 code.function) (report_walks 𝓛 mem run 𝓣 known)
-
-pub report_spec : {M : Type 1} → stated.statement M
-unfolding code.routine tables_of
-report_spec 𝓤 𝓛 𝓜 𝓡 =
-    entered 𝓤 𝓛.H (triple_of 𝓛 report.signature (report.spec 𝓛 𝓜.mem 𝓡.run))
-    (tables 𝓤 𝓛.H 𝓜 𝓡 code.env).C (tables 𝓤 𝓛.H 𝓜 𝓡 code.env).Λ #report code.function (code.unfolded 𝓤 𝓛.H 𝓜 𝓡)
-    (report_meets 𝓛 𝓜.mem 𝓡.run (tables_of 𝓤 𝓛.H 𝓜 (tables 𝓤 𝓛.H 𝓜 𝓡 code.env)) (record {
-      turned = cited 𝓤 𝓛.H (Turns 𝓛 𝓜.mem 𝓡.run) 𝓜 𝓡 code.env #turns turns_def.routine code.calls_hours::tally::turns (turns_thm.met 𝓤 𝓛 𝓜 𝓡);
-      started = cited 𝓤 𝓛.H (Start 𝓛 𝓜.mem 𝓡.run) 𝓜 𝓡 code.env #start start_def.routine code.calls_hours::tally::start (start_thm.met 𝓤 𝓛 𝓜 𝓡);
-      stepped = cited 𝓤 𝓛.H (Step 𝓛 𝓜.mem 𝓡.run) 𝓜 𝓡 code.env #step step_def.routine code.calls_hours::tally::step (step_thm.met 𝓤 𝓛 𝓜 𝓡);
-      finished = cited 𝓤 𝓛.H (Finish 𝓛 𝓜.mem 𝓡.run) 𝓜 𝓡 code.env #finish finish_def.routine code.calls_hours::tally::finish (finish_thm.met 𝓤 𝓛 𝓜 𝓡);
-    }))

@@ -1,0 +1,24 @@
+-- `tally::slot` meets its contract. Assumes nothing.
+use Prim.Native.Nat.{ℕ, ◌≤◌}
+use mathlib.Core.Logic.{◌≢◌}
+use mathlib.Core.Path.{◌≡◌}
+use native.Mathlib.Omega.{arith}
+use lib.Count.{ones, trailing_le}
+use borrow.Author.Tests.{not-true, not-false, eq-eqb, ne_eqb}
+use Rattle.hours.proofs.Sets.{low_lt}
+use Rattle.hours.proofs.tally.slot.Goals as goal
+
+one_left : (n : ℕ) → n ≢ 0 → n ≤ 1 → n ≡ 1
+one_left n a b = omega arith
+
+pub returns-then-not-awake : goal.returns-then-not-awake
+returns-then-not-awake c = (rw (c.if-not-awake.true), omega arith)
+
+pub returns-then-many-eq0 : goal.returns-then-many-eq0
+returns-then-many-eq0 c = (rw (c.if-not-awake.false, eq-eqb (ones c.args.set) 0 c.if-many-eq0.true), omega arith)
+
+pub overflow_cast-result : goal.overflow_cast-result
+overflow_cast-result c = omega (arith, trailing_le 16 c.args.set)
+
+pub overflow_add-result : goal.overflow_add-result
+overflow_add-result c = omega (arith, trailing_le 16 c.args.set)
