@@ -1,5 +1,7 @@
 // The C boundary: numbers and slices only. A state is lent as four slices of any lengths; it is copied in, the session's call is
 // made, and what the call hands back is copied out.
+#![tactic(auto)]
+
 ghost use Rattle.std.specs.Prelude.{◌≡◌};
 ghost use Rattle.table.specs.Limits.{base};
 ghost use Rattle.table.specs.Check.{says};

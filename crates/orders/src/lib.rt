@@ -1,4 +1,6 @@
 // What a line of `bench` asks for, and what is answered: the tables and the calls, each by its letter.
+#![tactic(auto)]
+
 mod calls;
 mod read;
 mod run;

@@ -16,7 +16,7 @@ ghost use Rattle.session.specs.Calls.{answers, offering, received};
 
 // Each role's head row, and for each ordered pair of roles (sender x ROLES + receiver) a queue of DEPTH slots, the oldest message in
 // the first.
-#[derive(Drop)]
+#[derive(Clone, Copy)]
 pub struct Session {
     pub heads: [u16; Session::ROLES],
     pub counts: [u8; Session::PAIRS],
@@ -173,7 +173,7 @@ impl Session {
 
 // What fresh, send and receive hand back: the number, the label and payload of an accepted receive (else 0), the lowest label that the head
 // offers where the call was refused for its label (else NOLABEL), the state.
-#[derive(Drop)]
+#[derive(Clone, Copy)]
 pub struct Answer {
     pub number: u8,
     pub label: u8,
@@ -183,7 +183,7 @@ pub struct Answer {
 }
 
 // The awaited roles: the set (role r is the digit of weight 2 to the r), how many they are, the lowest (Session::ROLES for none).
-#[derive(Drop)]
+#[derive(Clone, Copy)]
 pub struct Awaiting {
     pub number: u8,
     pub set: u8,

@@ -1,6 +1,7 @@
 -- `arrays::report` meets its contract. The loop's invariant: the tally is that of the records before this one. Assumes nothing.
 use Prim.Native.Nat.{◌-◌, ◌≤◌}
 use mathlib.Core.Path.{◌≡◌, ap, ◌∙◌}
+use mathlib.Core.Bool.{not}
 use borrow.Author.Rules.{rules}
 use native.Mathlib.Numerals.{add-one}
 use native.Mathlib.Omega.{arith}
@@ -11,6 +12,17 @@ use Rattle.hours.proofs.arrays.report.Goals as goal
 
 pub finish-requires : goal.finish-requires
 finish-requires c = c.start.ensures.1
+
+pub returns-then-not-flags-length : goal.returns-then-not-flags-length
+returns-then-not-flags-length c =
+    let a = c.args in
+    c.finish.ensures ∙ ap (finish_of base) c.start.ensures.0 ∙ uneven_is base a.minutes.now a.flags.now a.sets.now a.roles (ap not c.if-not-flags-length.true)
+
+pub loop-i-init : goal.loop-i-init
+loop-i-init c =
+    let a = c.args in
+    let sized = evenly base a.minutes.now a.flags.now a.sets.now a.roles c.turns-turns.result (ap not c.if-not-flags-length.false) c.turns-turns.ensures in
+    (omega arith, none_recorded base a.minutes.now a.flags.now a.sets.now a.roles c.turns-turns.result sized c.start-t.result c.start-t.ensures.0, c.start-t.ensures.1, sized)
 
 pub bounds-minutes-i : goal.bounds-minutes-i
 bounds-minutes-i c = omega (arith, c.loop-i.invariant.3.inside)

@@ -10,7 +10,19 @@ use Rattle.table.specs.Limits.{base}
 use Rattle.hours.specs.Report.{each}
 use Rattle.hours.specs.mirror.Tally.{ALONE}
 use Rattle.hours.proofs.Each.{fill_next, fill_all}
+use Rattle.hours.proofs.tally.alone.Invariants.{of_role}
 use Rattle.hours.proofs.tally.alone.Goals as goal
 
-abbrev of_role : List ℕ → ℕ → ℕ
-of_role sums k = get_or sums (ALONE + k) 0
+pub loop-role-init : goal.loop-role-init
+unfolding each
+loop-role-init c = (omega arith, refl)
+
+pub loop-role-preserved : goal.loop-role-preserved
+loop-role-preserved c =
+    let sums = c.args.sums in
+    let role = c.loop-role.role in
+    let filled = c.loop-role.invariant.1 in
+    (omega arith, rw (filled, add-one) (fill_next (of_role sums) base.roles role (of_role sums role) (omega arith) refl))
+
+pub returns : goal.returns
+returns c = c.loop-role.invariant.1 ∙ fill_all (of_role c.args.sums) base.roles c.loop-role.role (omega arith)

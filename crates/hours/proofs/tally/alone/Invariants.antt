@@ -12,6 +12,9 @@ use Rattle.hours.specs.mirror.Tally.{ALONE}
 use Rattle.hours.proofs.Each.{fill_next, fill_all}
 use Rattle.hours.proofs.tally.alone.Given as goal
 
+abbrev pub of_role : List ℕ → ℕ → ℕ
+of_role sums k = get_or sums (ALONE + k) 0
+
 abbrev pub invariant-loop-role : goal.invariant-loop-role
 invariant-loop-role l = (l.role ≤ base.roles) × (l.figures ≡ each (of_role l.sums) l.role ++ replicate (base.roles - l.role) 0)
 
