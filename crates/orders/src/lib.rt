@@ -19,7 +19,7 @@ use run::Said;
 pub use run::{Answered, LONGEST, Numbers, Run, TEXT, Text, Words, start};
 
 // The letter of a line and how many numbers it has. No order has the letter 0, which stands for a line that is malformed.
-#[derive(Drop)]
+#[derive(Clone, Copy)]
 struct Given {
     letter: u8,
     count: usize,

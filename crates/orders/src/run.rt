@@ -31,7 +31,7 @@ pub const TEXT: usize = ANSWER * 11;
 pub type Text = [u8; TEXT];
 
 // How many roles, how many words of tables, the state.
-#[derive(Drop)]
+#[derive(Clone, Copy)]
 pub struct Run {
     pub roles: usize,
     pub words: usize,
@@ -39,7 +39,7 @@ pub struct Run {
 }
 
 // The answer of an order: how many numbers it has (0 for a line that is malformed), those numbers, how many words of the tables follow; and the run after it.
-#[derive(Drop)]
+#[derive(Clone, Copy)]
 pub struct Said {
     pub count: usize,
     pub told: Told,
@@ -50,7 +50,7 @@ pub struct Said {
 }
 
 // How many bytes of text answer a line, and the run after it.
-#[derive(Drop)]
+#[derive(Clone, Copy)]
 pub struct Answered {
     pub length: usize,
     pub run: Run,

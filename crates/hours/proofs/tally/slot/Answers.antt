@@ -21,7 +21,7 @@ returns-then-many-eq0 c = (rw (c.if-not-awake.false, eq-eqb (ones c.args.set) 0 
 pub returns-then-many-gt1 : goal.returns-then-many-gt1
 returns-then-many-gt1 c =
     let a = c.args in
-    (rw (ap not c.if-not-awake.false, ne_eqb (ones a.set) 0 c.if-many-eq0.false, ne_eqb (ones a.set) 1 (λ e. absurd (omega (arith, c.if-many-gt1.true)))), omega arith)
+    (rw (c.if-not-awake.false, ne_eqb (ones a.set) 0 c.if-many-eq0.false, ne_eqb (ones a.set) 1 (λ e. absurd (omega (arith, c.if-many-gt1.true)))), omega arith)
 
 pub overflow_cast-result : goal.overflow_cast-result
 overflow_cast-result c = omega (arith, trailing_le 16 c.args.set)
@@ -35,4 +35,4 @@ returns c =
     let some = c.if-many-eq0.false in
     let many : ones a.set ≡ 1 = one_left (ones a.set) some c.if-many-gt1.false in
     let low = low_lt 16 a.set c.ranges.set.fits (omega arith) in
-    (rw (ap not c.if-not-awake.false, ne_eqb (ones a.set) 0 c.if-many-eq0.false, eq-eqb (ones a.set) 1 many), omega arith)
+    (rw (c.if-not-awake.false, ne_eqb (ones a.set) 0 c.if-many-eq0.false, eq-eqb (ones a.set) 1 many), omega arith)

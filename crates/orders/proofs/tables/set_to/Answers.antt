@@ -1,0 +1,6 @@
+-- `orders::tables::set_to` meets its contract. Assumes nothing.
+use borrow.Author.Rules.{rules}
+use Rattle.orders.proofs.tables.set_to.Goals as goal
+
+pub returns : goal.returns
+returns c = rw c.fresh-fresh.ensures
