@@ -1,4 +1,6 @@
 // The C boundary of the report: a log is lent as three arrays; its figures go behind pointers and into a lent slice.
+#![tactic(auto)]
+
 ghost use Rattle.std.specs.Prelude.{◌≡◌};
 ghost use Rattle.table.specs.Limits.{base};
 ghost use Rattle.hours.specs.Arrays.{report_of_arrays};

@@ -1,4 +1,6 @@
 // A log as lines of numbers, and the line that answers it. A line is handed over behind a letter and a blank, as `lines` reads it.
+#![tactic(auto)]
+
 mod shown;
 
 ghost use Rattle.std.specs.Prelude.{◌≡◌, false, true, suc, ◌≤◌, length, take};

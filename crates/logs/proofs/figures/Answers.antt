@@ -1,0 +1,6 @@
+-- `logs::figures` meets its contract. Assumes nothing.
+use borrow.Author.Rules.{rules}
+use Rattle.logs.proofs.figures.Goals as goal
+
+pub returns : goal.returns
+returns c = c.report.ensures
