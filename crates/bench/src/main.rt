@@ -1,8 +1,11 @@
 // The line protocol over opening and session: one line in, one line out, to the end of the input.
 //
 // A line of more than 65,536 bytes is answered `?`, as is every line that is malformed.
-use libc::{STDIN_FILENO, STDOUT_FILENO};
+#![tactic(auto)]
+
 use orders::{LONGEST, Numbers, Run, TEXT, Text, Words};
+use std::io;
+use std::io::{Read, Write};
 
 // As many bytes as are read at once.
 const CHUNK: usize = 65536;
@@ -19,12 +22,6 @@ type Line = [u8; ROOM];
 struct Reading {
     length: usize,
     run: Run,
-}
-
-// More bytes of the input; none at its end.
-fn read_more(input: &mut Input) -> usize {
-    let got = libc::read(STDIN_FILENO, input);
-    io::count(got, input)
 }
 
 // A last line without its newline is given one.
@@ -52,28 +49,34 @@ fn first(bytes: &[u8], length: usize) -> &[u8] {
 }
 
 // The first `length` bytes go out.
-fn write(text: &Text, length: usize) {
-    io::write_all(STDOUT_FILENO, first(text, length));
+fn write(rt: &impl Print, text: &Text, length: usize) -> io::Result<()> {
+    io::writer(rt).write_all(first(text, length))
 }
 
 // The line is answered.
-fn answer(run: Run, line: &[u8], numbers: &mut Numbers, tables: &mut Words) -> Run {
+fn answer(
+    rt: &impl Print,
+    run: Run,
+    line: &[u8],
+    numbers: &mut Numbers,
+    tables: &mut Words,
+) -> io::Result<Run> {
     let mut text = [0u8; TEXT];
     let answered = orders::answer(run, line, numbers, tables, &mut text);
-    write(&text, answered.length);
-    let after = answered.run;
-    after
+    write(rt, &text, answered.length)?;
+    Ok(answered.run)
 }
 
 // The first `count` bytes that were read: a newline ends the line, another byte lengthens it.
 fn take_all(
+    rt: &impl Print,
     reading: Reading,
     input: &Input,
     count: usize,
     line: &mut Line,
     numbers: &mut Numbers,
     tables: &mut Words,
-) -> Reading {
+) -> io::Result<Reading> {
     let end = lines::least(count, CHUNK);
     let mut run = reading.run;
     let mut length = reading.length;
@@ -81,21 +84,22 @@ fn take_all(
     while i < end {
         let byte = input[i];
         if byte == b'\n' {
-            run = answer(run, first(line, length), numbers, tables);
+            run = answer(rt, run, first(line, length), numbers, tables)?;
             length = 0;
         } else {
             length = lengthen(line, length, byte);
         }
         i += 1;
     }
-    Reading {
+    Ok(Reading {
         length: length,
         run: run,
-    }
+    })
 }
 
-fn main() {
-    let mut input = io::large_buffer();
+fn main(rt: HostRuntime) -> io::Result<()> {
+    let mut reader = rt.reader();
+    let mut input = [0u8; CHUNK];
     let mut line = [0u8; ROOM];
     let mut numbers = [0u32; LONGEST];
     let mut tables = [0u16; LONGEST];
@@ -107,12 +111,13 @@ fn main() {
     // A proved loop has to end, and nothing says that the input does: no run uses these turns up.
     let mut turns = u64::MAX;
     while turns > 0 {
-        let mut count = read_more(&mut input);
+        let mut count = reader.read(&mut input)?;
         if count == 0 {
             turns = 1;
             count = last(&mut input, reading.length);
         }
-        reading = take_all(reading, &input, count, &mut line, &mut numbers, &mut tables);
+        reading = take_all(&rt, reading, &input, count, &mut line, &mut numbers, &mut tables)?;
         turns -= 1;
     }
+    Ok(())
 }

@@ -29,7 +29,7 @@ pub type Flags = [u8; ROOM];
 pub type Sets = [u16; ROOM];
 
 // Whether the role count was read, and whether a line was malformed; the role count, and how many records there are.
-#[derive(Drop)]
+#[derive(Clone, Copy)]
 pub struct Log {
     pub begun: bool,
     pub faulty: bool,

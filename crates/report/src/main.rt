@@ -1,8 +1,11 @@
 // The yearly report: the lines of a log in, the line that answers them out, and behind it a table for a person.
+#![tactic(auto)]
+
 mod sheet;
 
-use libc::{STDIN_FILENO, STDOUT_FILENO};
 use logs::{Flags, LONGEST, Log, Minutes, Numbers, ROOM, Sets, TEXT, Text};
+use std::io;
+use std::io::{Read, Write};
 
 // As many bytes as are read at once.
 const CHUNK: usize = 65536;
@@ -22,12 +25,6 @@ type Line = [u8; WIDEST];
 struct Reading {
     length: usize,
     log: Log,
-}
-
-// More bytes of the input; none at its end.
-fn read_more(input: &mut Input) -> usize {
-    let got = libc::read(STDIN_FILENO, input);
-    io::count(got, input)
 }
 
 // A last line without its newline is given one.
@@ -86,23 +83,30 @@ fn take_all(
 }
 
 // The first `length` bytes go out.
-fn write(text: &Text, length: usize) {
-    io::write_all(STDOUT_FILENO, first(text, length));
+fn write(rt: &impl Print, text: &Text, length: usize) -> io::Result<()> {
+    io::writer(rt).write_all(first(text, length))
 }
 
 // The answer, and the table of a log without a malformed line.
-fn tell(log: Log, minutes: &Minutes, flags: &Flags, sets: &Sets) {
+fn tell(
+    rt: &impl Print,
+    log: Log,
+    minutes: &Minutes,
+    flags: &Flags,
+    sets: &Sets,
+) -> io::Result<()> {
     let mut text = [0u8; TEXT];
     let length = logs::answer(log, minutes, flags, sets, &mut text);
-    write(&text, length);
+    write(rt, &text, length)?;
     if log.faulty | !log.begun {
-        return;
+        return Ok(());
     }
-    sheet::show(logs::figures(log, minutes, flags, sets), log.roles);
+    sheet::show(rt, logs::figures(log, minutes, flags, sets), log.roles)
 }
 
-fn main() {
-    let mut input = io::large_buffer();
+fn main(rt: HostRuntime) -> io::Result<()> {
+    let mut reader = rt.reader();
+    let mut input = [0u8; CHUNK];
     let mut line = [b' '; WIDEST];
     line[0] = b'r';
     let mut numbers = [0u32; LONGEST];
@@ -117,7 +121,7 @@ fn main() {
     // A proved loop has to end, and nothing says that the input does: no run uses these turns up.
     let mut turns = u64::MAX;
     while turns > 0 {
-        let mut count = read_more(&mut input);
+        let mut count = reader.read(&mut input)?;
         if count == 0 {
             turns = 1;
             count = last(&mut input, reading.length);
@@ -134,5 +138,5 @@ fn main() {
         );
         turns -= 1;
     }
-    tell(reading.log, &minutes, &flags, &sets);
+    tell(&rt, reading.log, &minutes, &flags, &sets)
 }

@@ -31,6 +31,7 @@ laid_first (l_back e) = ap is_arm e
 
 first_arm : {row : ℕ → PartRow} {i : ℕ} {around : List ℕ} {ps : PartArms} → LaidArms row i around ps → SomePart ps → is_arm (row i) ≡ true
 first_arm (l_arm e body arms) some_part = ap is_arm e
+first_arm l_nil h = elim h [ ]
 
 some_size : {ps : PartArms} → SomePart ps → 0 < size_arms ps
 unfolding size

@@ -82,6 +82,7 @@ module _ {A : Type 0} (view : ℕ → View) (head : ℕ → ℕ) where
     can_receive (c_over sq c) z e (h_same pp qq h) = absurd (sq qq)
     can_receive (c_over {p = p} {q = q} {l = l} {v = v'} sq c) z e (h_over ne h) =
         let (G', s) = can_receive c z e h in (flight p q l v' G', rule_5 sq s)
+    can_receive (c_loop _) z e h = elim h [ ]
 
     can_receive_each : {s n row p l : ℕ} {v : A} {cs : Arms A} {arms : List ArmAt} {w : List (ℕ × A)}
         → CoversEach view head s n cs row → n ≢ 0 → view row ≡ v_receive p arms → HoldsEach p s cs ((l, v) ∷ w)

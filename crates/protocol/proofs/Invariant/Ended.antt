@@ -39,3 +39,4 @@ module _ {A : Type 0} (view : ℕ → View) (head : ℕ → ℕ) where
 
     left_ends_first : {r n row : ℕ} {cs : Arms A} → CoversEach view head r n cs row → SomeArm cs → n ≢ 0 → NothingLeftArms r cs → view row ≡ v_end
     left_ends_first (ce_arm c ce) some_arm z (left_arm f g) = left_ends c z f
+    left_ends_first ce_nil h z _ = elim h [ ]

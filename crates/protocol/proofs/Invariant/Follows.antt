@@ -48,10 +48,12 @@ use Rattle.protocol.proofs.Invariant.Covers.{
 
 pub some_steps : {A : Type 0} {a : Action A} {cs cs' : Arms A} → Steps a cs cs' → SomeArm cs → SomeArm cs'
 some_steps (each_arm s ss) some_arm = some_arm
+some_steps no_arm h = elim h [ ]
 
 label_steps : {A : Type 0} {a : Action A} {l : ℕ} {cs cs' : Arms A} → Steps a cs cs' → HasLabel l cs → HasLabel l cs'
 label_steps (each_arm s ss) has_here = has_here
 label_steps (each_arm s ss) (has_there h) = has_there (label_steps ss h)
+label_steps no_arm h = elim h [ ]
 
 module _ {A : Type 0} (view : ℕ → View) (head : ℕ → ℕ) where
   each_in : {r n l row : ℕ} {G : Global A} {cs : Arms A} → ArmOf l G cs → CoversEach view head r n cs row → Covers view head r n G row
@@ -124,6 +126,7 @@ module _ {A : Type 0} (view : ℕ → View) (head : ℕ → ℕ) where
     does_first : {n row : ℕ} {a : Action A} {cs cs' : Arms A} → Steps a cs cs' → SomeArm cs
         → CoversEach view head (subject a) (suc n) cs row → (x : ℕ) × Does a (view row) x
     does_first (each_arm s ss) sm (ce_arm c ce) = does s c
+    does_first no_arm sm _ = elim sm [ ]
 
   -- and goes on to where it covers what is left
   mutual

@@ -68,6 +68,7 @@ mutual
 
   left_stills : {A : Type 0} {a : Action A} {cs cs' : Arms A} → Steps a cs cs' → SomeArm cs → NothingLeftArms (subject a) cs → ⊥
   left_stills (each_arm s ss) sm (left_arm f g) = left_still s f
+  left_stills no_arm sm _ = elim sm [ ]
 
 mutual
   unfolding close

@@ -43,6 +43,8 @@ mutual
   holds_other (rule_4 sp sq sm ss) ne (h_quiet (t_exchange f)) = empty_exchange (some_steps ss sm) (holds_others ss ne (quiet_each f))
   holds_other (rule_5 sq s) ne (h_same pp qq h) = h_same pp qq (holds_other s ne h)
   holds_other (rule_5 sq s) ne (h_over n h) = h_over n (holds_other s ne h)
+  holds_other rule_2 ne (h_quiet h) = elim h [ ]
+  holds_other (rule_5 sq s) ne (h_quiet h) = elim h [ ]
 
   holds_others : {A : Type 0} {p q : ℕ} {a : Action A} {cs cs' : Arms A} {w : List (ℕ × A)} → Steps a cs cs'
       → ¬ ((p ≡ sender a) × (q ≡ receiver a)) → HoldsEach p q cs w → HoldsEach p q cs' w
@@ -61,6 +63,8 @@ mutual
   holds_send (rule_4 sp sq sm ss) is_send_lem (h_quiet (t_exchange f)) = h_past sp (some_steps ss sm) (holds_sends ss is_send_lem (quiet_each f))
   holds_send (rule_5 sq s) t (h_same pp qq h) = h_same pp qq (holds_send s t h)
   holds_send (rule_5 sq s) t (h_over n h) = h_over n (holds_send s t h)
+  holds_send rule_2 t _ = elim t [ ]
+  holds_send (rule_5 sq s) t (h_quiet h) = elim h [ ]
 
   holds_sends : {A : Type 0} {a : Action A} {cs cs' : Arms A} {w : List (ℕ × A)} → Steps a cs cs' → IsSend a
       → HoldsEach (sender a) (receiver a) cs w → HoldsEach (sender a) (receiver a) cs' (w ++ (message a ∷ []))
@@ -78,10 +82,14 @@ mutual
   holds_first (rule_4 sp sq sm ss) t (h_quiet (t_exchange f)) = holds_firsts ss t sm (quiet_each f)
   holds_first (rule_5 sq s) is_receive_lem (h_same pp qq h) = absurd (sq qq)
   holds_first (rule_5 sq s) t (h_over n h) = holds_first s t h
+  holds_first (rule_1 _) t _ = elim t [ ]
+  holds_first rule_2 t (h_quiet h) = elim h [ ]
+  holds_first (rule_5 sq s) t (h_quiet h) = elim h [ ]
 
   holds_firsts : {A : Type 0} {a : Action A} {cs cs' : Arms A} {w : List (ℕ × A)} → Steps a cs cs' → IsReceive a → SomeArm cs
       → HoldsEach (sender a) (receiver a) cs w → (w' : List (ℕ × A)) × (w ≡ (message a ∷ w'))
   holds_firsts (each_arm s ss) t sm (he_arm h hs) = holds_first s t h
+  holds_firsts no_arm t sm _ = elim sm [ ]
 
 same_rest : {B : Type 0} {x y : B} {xs ys : List B} → (x ∷ xs) ≡ (y ∷ ys) → xs ≡ ys
 same_rest e = cc
@@ -100,6 +108,9 @@ mutual
   holds_receive (rule_4 sp sq sm ss) t e (h_quiet f) = nil≢cons e
   holds_receive (rule_5 sq s) is_receive_lem e (h_same pp qq h) = absurd (sq qq)
   holds_receive (rule_5 sq s) t e (h_over n h) = h_over n (holds_receive s t e h)
+  holds_receive (rule_1 _) t e _ = elim t [ ]
+  holds_receive rule_2 t e (h_quiet f) = elim f [ ]
+  holds_receive (rule_5 sq s) t e (h_quiet f) = elim f [ ]
 
   holds_receives : {A : Type 0} {a : Action A} {cs cs' : Arms A} {w w' : List (ℕ × A)} → Steps a cs cs' → IsReceive a
       → w ≡ (message a ∷ w') → HoldsEach (sender a) (receiver a) cs w → HoldsEach (sender a) (receiver a) cs' w'

@@ -13,8 +13,8 @@ use Rattle.protocol.specs.Stranded.{Place, oldest, behind, Advances, sends_picke
 use Rattle.protocol.specs.Unrolled.{unrolled}
 use Rattle.protocol.proofs.Invariant.Unread.{same_pair, other_pair}
 use Rattle.protocol.proofs.Invariant.View.{View, v_end}
-use Rattle.protocol.proofs.Invariant.Covers.{Covers, c_zero, c_gone, c_send, c_receive, c_past, c_get, c_over, c_loop, CoversEach, ce_arm}
-use Rattle.protocol.proofs.Invariant.Holds.{Holds, h_same, h_over, h_past, h_none, h_quiet, HoldsEach, he_arm}
+use Rattle.protocol.proofs.Invariant.Covers.{Covers, c_zero, c_gone, c_send, c_receive, c_past, c_get, c_over, c_loop, CoversEach, ce_nil, ce_arm}
+use Rattle.protocol.proofs.Invariant.Holds.{Holds, h_same, h_over, h_past, h_none, h_quiet, HoldsEach, he_nil, he_arm}
 use Rattle.protocol.proofs.Invariant.Agree.{sender, receiver, message, IsSend, is_send_lem}
 
 -- how many of these actions are a receive by q from p
@@ -39,10 +39,12 @@ module _ {A : Type 0} (pick : Arms A → ℕ) (v : A) where
   sends_alone (sends_picked i) is_send_lem (h_none e hs) = refl
   sends_alone (sends_picked i) is_send_lem (h_quiet f) = refl
   sends_alone (opens_loop t) s (h_quiet f) = refl
+  sends_alone receives_it s _ = elim s [ ]
 
   pub sends_payload : {a : Action A} {G G' : Global A} → Advances pick v G a G' → IsSend a → (message a).1 ≡ v
   sends_payload (sends_picked i) is_send_lem = refl
   sends_payload (opens_loop t) s = sends_payload t s
+  sends_payload receives_it s = elim s [ ]
 
   -- the topmost exchange is advanced by these actions and then by the action b
   pub data Leads : Global A → List (Action A) → Action A → Type 0 where
@@ -125,11 +127,14 @@ module _ {A : Type 0} (pick : Arms A → ℕ) (v : A) where
       held_gets (h_same e f h) (behind i) = gets_next e f (held_gets h i)
       held_gets (h_over n h) i = gets_over n (held_gets h i)
       held_gets (h_past {cs = cs} n sm hs) i = gets_past n (picked cs sm).1 (held_gets_arm hs (picked cs sm).1 i)
+      held_gets (h_none _ _) i = elim i [ ]
+      held_gets (h_quiet _) i = elim i [ ]
 
       held_gets_arm : {p q k l : ℕ} {m : ℕ × A} {H : Global A} {cs : Arms A} {w : List (ℕ × A)} → HoldsEach p q cs w → ArmOf l H cs → Place w k m
           → Gets p q k m H
       held_gets_arm (he_arm h hs) (here e) i = held_gets h i
       held_gets_arm (he_arm h hs) (there n j) i = held_gets_arm hs j i
+      held_gets_arm he_nil h i = elim h [ ]
 
     module _ (view : ℕ → View) (head : ℕ → ℕ) where
       mutual
@@ -155,3 +160,4 @@ module _ {A : Type 0} (pick : Arms A → ℕ) (v : A) where
             → Moves r H
         role_moves_arm (ce_arm c ce) (here e) z ne = role_moves c z ne
         role_moves_arm (ce_arm c ce) (there m j) z ne = role_moves_arm ce j z ne
+        role_moves_arm ce_nil h z ne = elim h [ ]

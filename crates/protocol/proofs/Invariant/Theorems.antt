@@ -120,7 +120,7 @@ module _ {A : Type 0} (view : ℕ → ℕ → View) (head : ℕ → ℕ → ℕ)
       let (x, d) = does (view q) (head q) s (g.covered q 1) in
       (x, found d e)
 
-  first_step : {G : Global A} {r n row : ℕ} (v : A) → Covers (view r) (head r) r n G row → n ≢ 0 → view r row ≢ v_end → Ready G
+  first_step : {r n row : ℕ} {G : Global A} (v : A) → Covers (view r) (head r) r n G row → n ≢ 0 → view r row ≢ v_end → Ready G
   first_step v c_zero z ne = absurd (z refl)
   first_step v (c_gone f e) z ne = absurd (ne e)
   first_step v (c_send rp pq e sm labels ca) z ne = ready_exchange v sm

@@ -17,7 +17,7 @@ use Rattle.protocol.specs.Engine.{Call, sends, receives, Reply, Engine}
 use Rattle.protocol.specs.Left.{is_pair, now_unread, unread, is_send, is_receive, accepted_of}
 use Rattle.protocol.specs.Demand3.{step_of, ComesTo, no_call, accepted_call, refused_call}
 use Rattle.protocol.proofs.Invariant.Agree.{is_send_lem, is_receive_lem}
-use Rattle.protocol.proofs.Invariant.Holds.{Holds, h_same, h_over, h_past, h_none, h_quiet, HoldsEach, he_arm}
+use Rattle.protocol.proofs.Invariant.Holds.{Holds, h_same, h_over, h_past, h_none, h_quiet, HoldsEach, he_nil, he_arm}
 use Rattle.protocol.proofs.Invariant.Queues.{holds_other, holds_send, holds_first, holds_receive}
 
 pub same_pair : (p q p' q' : ℕ) → p ≡ p' → q ≡ q' → is_pair p q p' q' ≡ true
@@ -100,9 +100,12 @@ mutual
   quiet_empty (h_past n sm hs) (t_exchange f) = quiet_empty_each hs sm f
   quiet_empty (h_none e hs) f = refl
   quiet_empty (h_quiet f) g = refl
+  quiet_empty (h_same _ _ _) f = elim f [ ]
+  quiet_empty (h_over _ _) f = elim f [ ]
 
   quiet_empty_each : {A : Type 0} {p q : ℕ} {cs : Arms A} {w : List (ℕ × A)} → HoldsEach p q cs w → SomeArm cs → StaticArms cs → w ≡ []
   quiet_empty_each (he_arm h hs) some_arm (t_arm f g) = quiet_empty h f
+  quiet_empty_each he_nil h _ = elim h [ ]
 
 -- the messages in flight are those of one list only
 mutual
@@ -118,6 +121,9 @@ mutual
   holds_once (h_none e hs) (h_none e' hs') = refl
   holds_once (h_none e hs) (h_quiet f) = refl
   holds_once (h_quiet f) h = sym (quiet_empty h f)
+  holds_once (h_same e f h) (h_quiet t) = elim t [ ]
+  holds_once (h_over n h) (h_quiet f) = elim f [ ]
 
   holds_once_each : {A : Type 0} {p q : ℕ} {cs : Arms A} {w w' : List (ℕ × A)} → HoldsEach p q cs w → HoldsEach p q cs w' → SomeArm cs → w ≡ w'
   holds_once_each (he_arm h hs) (he_arm h' hs') some_arm = holds_once h h'
+  holds_once_each he_nil _ h = elim h [ ]

@@ -132,3 +132,5 @@ same_at (p_arm j P ps) (p_arm k Q qs) e (at_there n t) =
     let (f, g) = both (eqb j k) (same_labels ps qs) e in
     let (R, u) = same_at ps qs g t in
     (R, at_there (λ h. n (h ∙ eqb-true j k f)) u)
+same_at p_nil p_nil e t = elim t [ ]
+same_at (p_arm j P ps) p_nil e t = elim t [ ]

@@ -69,6 +69,10 @@ mutual
   idle (f_back {k = k}) hb_back = (a_back, i_back {d = suc k} {k = k} (omega arith))
   idle (f_loop nb f) (hb_loop h) = let (a, b) = idle f h in (a_loop a, i_loop b)
   idle (f_past rp rq sm fs) h = let (a, b) = idle_each fs h in (a_exchange rp rq a, i_exchange b)
+  idle f_end h = elim h [ ]
+  idle (f_gone _ _) h = elim h [ ]
+  idle (f_send _ _ _ _ _) h = elim h [ ]
+  idle (f_receive _ _ _ _) h = elim h [ ]
 
   idle_each : {A : Type 0} {r j : ℕ} {cs : Arms A} {M : Part} → FitsEach r cs M → HeadBack j M → AbsentArms r cs × InsideArms (suc j) cs
   idle_each fe_nil h = (a_nil, i_nil)

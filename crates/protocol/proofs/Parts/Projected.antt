@@ -134,6 +134,7 @@ data Zip {A : Type 0} (r : ℕ) : Arms A → PartArms → Type 0 where
 zip_label : {A : Type 0} {r l : ℕ} {P : Part} {cs : Arms A} {ps : PartArms} → Zip r cs ps → At l P ps → HasLabel l cs
 zip_label (z_arm f z) (at_here e) = rw e has_here
 zip_label (z_arm f z) (at_there n t) = has_there (zip_label z t)
+zip_label z_nil h = elim h [ ]
 
 fits_there : {A : Type 0} {r l : ℕ} {P : Part} {cs : Arms A} {ps : PartArms} → ¬ HasLabel l cs → FitsArms r cs ps → FitsArms r cs (p_arm l P ps)
 fits_there h fa_nil = fa_nil
@@ -149,11 +150,11 @@ fits_rising : {A : Type 0} {r : ℕ} {cs : Arms A} {ps : PartArms} → FitsArms 
 fits_rising fa_nil = fa_nil
 fits_rising (fa_arm t f fs) = fa_arm (at_rising t) f (fits_rising fs)
 
-zip_from : {A : Type 0} {r : ℕ} {P M : Part} {cs : Arms A} {ps : PartArms} → Zip r cs ps → merge_from P ps ≡ some M
+zip_from : {A : Type 0} {r : ℕ} {cs : Arms A} {ps : PartArms} → Zip r cs ps → {P M : Part} → merge_from P ps ≡ some M
     → ((H : Global A) → Fits r H P → Fits r H M) × FitsEach r cs M
 unfolding merge_from
 zip_from z_nil e = rw (← some_injective e) ((λ H f. f), fe_nil)
-zip_from {P = P} (z_arm {G = G} {P = Q} f z) e =
+zip_from (z_arm {G = G} {P = Q} f z) {P} e =
     let (N, g, h) = bind_some (merge P Q) _ e in
     let (up, fs) = zip_from z h in
     let (a, b) = within_merge (merged P Q g) in

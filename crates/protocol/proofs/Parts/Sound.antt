@@ -19,7 +19,7 @@ use Rattle.parts.proofs.Rising.{no_label, label, Above, Lacks, above_lacks, abov
 use Rattle.parts.proofs.Laws.{labels_kept}
 use Rattle.protocol.proofs.Parts.Arms.{none≢some, some_injective, bind_some, At, at_here, at_there, at_arm_of}
 use Rattle.protocol.proofs.Parts.Merged.{Merged, m_end, m_send, m_receive, m_loop, m_back, MergedArms, m_rest, m_alone, m_shared, merged}
-use Rattle.protocol.proofs.Parts.Within.{◌⊑◌, w_back, w_loop, within_merge}
+use Rattle.protocol.proofs.Parts.Within.{◌⊑◌, w_end, w_send, w_receive, w_back, w_loop, within_merge}
 use Rattle.protocol.proofs.Parts.Fits.{Fits, f_loop, HeadBack, hb_back, hb_loop, no_return}
 use Rattle.protocol.proofs.Parts.Projected.{projected_fits}
 
@@ -93,16 +93,21 @@ module _ (roles labels r : ℕ) where
   sound_at : {d l : ℕ} {P : Part} {qs : PartArms} → SoundArms roles labels r d qs → At l P qs → Sound roles labels r d P
   sound_at (s_arm h b t ts) (at_here e) = t
   sound_at (s_arm h b t ts) (at_there n u) = sound_at ts u
+  sound_at s_nil h = elim h [ ]
 
 -- ---- merging
 
 head_back_down : {k : ℕ} {P M : Part} → P ⊑ M → HeadBack k M → HeadBack k P
 head_back_down w_back hb_back = hb_back
 head_back_down (w_loop w) (hb_loop h) = hb_loop (head_back_down w h)
+head_back_down w_end h = elim h [ ]
+head_back_down (w_send _ _) h = elim h [ ]
+head_back_down (w_receive _) h = elim h [ ]
 
 some_merge : {ps qs ms : PartArms} → MergedArms ps qs ms → SomePart ps → SomePart ms
 some_merge (m_alone {l = l} {P = P} {ms = ms} has m e) some_part = rw e (some_insert l P ms)
 some_merge (m_shared {l = l} {M = M} {ms = ms} has one m e) some_part = rw e (some_insert l M ms)
+some_merge m_rest h = elim h [ ]
 
 module _ (roles labels r : ℕ) where
   mutual

@@ -41,6 +41,7 @@ mutual
   self_arms : (ps : PartArms) (l : ℕ) (P : Part) → At l P ps → Over l P ps
   self_arms (p_arm k Q ps) l P (at_here e) = over (at_here e) (self Q)
   self_arms (p_arm k Q ps) l P (at_there n t) = over_there n (self_arms ps l P t)
+  self_arms p_nil l P h = elim h [ ]
 
 -- the arms ps are each within the arm of the same label in ms
 data Overs : PartArms → PartArms → Type 0 where

@@ -156,7 +156,7 @@ module _ (lim : Limits) (ts : List ℕ) (roles : ℕ) (s : Session) where
             let row = rw w at (holds lim ts roles p (λ x i. good p x h i) (head_of s p) (k.heads_in p h)) in
             let act = send_row lim ts roles p (head_of s p) q f a row in
             record {
-              pair = record { sender_in = h; receiver_in_lem = act.peer_in; different = λ t. act.peer_other (sym t) };
+              pair = record { sender_in = h; receiver_in = act.peer_in; different = λ t. act.peer_other (sym t) };
               first = f;
               unused = a;
               row = w;
@@ -174,7 +174,7 @@ module _ (lim : Limits) (ts : List ℕ) (roles : ℕ) (s : Session) where
             let row = rw w at (holds lim ts roles q (λ x i. good q x h i) (head_of s q) (k.heads_in q h)) in
             let act = receive_row lim ts roles q (head_of s q) p f a row in
             record {
-              pair = record { sender_in = act.peer_in; receiver_in_lem = h; different = act.peer_other };
+              pair = record { sender_in = act.peer_in; receiver_in = h; different = act.peer_other };
               first = f;
               unused = a;
               row = w;

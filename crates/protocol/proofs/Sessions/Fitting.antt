@@ -53,7 +53,7 @@ module _ {X : Type 0} {P : X → Type 0} where
   each_set zero x h (each_cons k f) = each_cons h f
   each_set (suc i) x h (each_cons k f) = each_cons k (each_set i x h f)
 
-  each_sets : {xs : List X} (i : ℕ) (ys : List X) → Each P ys → Each P xs → Each P (sets xs i ys)
+  each_sets : (i : ℕ) {xs : List X} (ys : List X) → Each P ys → Each P xs → Each P (sets xs i ys)
   each_sets i [] each_nil f = f
   each_sets i (y ∷ ys) (each_cons h g) f = each_sets (suc i) ys g (each_set i y h f)
 

@@ -126,10 +126,10 @@ view_end (v_back x) = no (λ e. end≢back e refl)
 -- ---- moves
 
 module _ (view : ℕ → ℕ → View) (head : ℕ → ℕ → ℕ) where
-  moves_send : {c c' : Config ℕ} {p q l v : ℕ} → Moves view head c (send p q l v) c' → (x : ℕ) × Does (send p q l v) (view p (c.rows p)) x
+  moves_send : {c : Config ℕ} {p q l v : ℕ} {c' : Config ℕ} → Moves view head c (send p q l v) c' → (x : ℕ) × Does (send p q l v) (view p (c.rows p)) x
   moves_send (m_send {x = x} d) = (x, d)
 
-  moves_receive : {c c' : Config ℕ} {p q l v : ℕ} → Moves view head c (receive p q l v) c'
+  moves_receive : {c : Config ℕ} {p q l v : ℕ} {c' : Config ℕ} → Moves view head c (receive p q l v) c'
       → (x : ℕ) × (w : List (ℕ × ℕ)) × Does (receive p q l v) (view q (c.rows q)) x × (c.queue p q ≡ ((l, v) ∷ w))
   moves_receive (m_receive {x = x} {w = w} d e) = (x, w, d, e)
 
@@ -279,7 +279,7 @@ module _ (lim : Limits) (ts : List ℕ) (roles : ℕ) (ground : Ground lim ts ro
   count_held p q h i f (yes e) =
       let none = no_self p q h i e in none ∙ sym (ap length (holds_once f (inv.agrees.held p q) ∙ fresh_queue lim roles s p q none))
   count_held p q h i f (no n) =
-      let two : Pair roles p q = record { sender_in = h; receiver_in_lem = i; different = n } in
+      let two : Pair roles p q = record { sender_in = h; receiver_in = i; different = n } in
       sym (ap length (holds_once f (inv.agrees.held p q) ∙ queue_of lim roles p q s two) ∙ listed_length (message_at lim s p q) (held lim s p q))
 
   -- ---- somebody is awaited until all have ended
@@ -320,7 +320,7 @@ module _ (lim : Limits) (ts : List ℕ) (roles : ℕ) (ground : Ground lim ts ro
     no_message p q h i (yes e) d = e
     no_message p q h i (no n) (yes e) = no_self p q h i e
     no_message p q h i (no n) (no m) =
-        let two : Pair roles p q = record { sender_in = h; receiver_in_lem = i; different = m } in
+        let two : Pair roles p q = record { sender_in = h; receiver_in = i; different = m } in
         absurd (all_done (inr (p, q, λ e. n (queue_empty p q two e))))
 
     pub finished : Finished (ours lim ts roles) roles s

@@ -89,12 +89,12 @@ module _ (lim : Limits) (ts : List ℕ) (roles : ℕ) (ground : Ground lim ts ro
     pub last_accepted : (answer_to lim ts roles (call_of b) (after (ours lim ts roles) (calls_of ds) s)).number ≡ ACCEPTED
     pub is : step_of (call_of b) (reply (answer_to lim ts roles (call_of b) (after (ours lim ts roles) (calls_of ds) s))) ≡ b
 
-  pub done : {s : Session} {G : Global ℕ} {ds : List (Action ℕ)} {b : Action ℕ} → Leads pick 0 G ds b → Inv lim ts roles s G → Done s ds b
+  pub done : {G : Global ℕ} {ds : List (Action ℕ)} {b : Action ℕ} → Leads pick 0 G ds b → {s : Session} → Inv lim ts roles s G → Done s ds b
   unfolding after calls_of
-  done {s} {G} (now {b = b} t) inv =
+  done {G} (now {b = b} t) {s} inv =
       let m = made s G inv b t in
       record { may_be_made = each_nil; all_accepted = all_made; may_be_last = m.may_be; last_accepted = m.accepted; is = m.is }
-  done {s} {G} (later {a = a} t r) inv =
+  done {G} (later {a = a} t r) {s} inv =
       let m = made s G inv a t in
       let d = done r m.inv in
       record {

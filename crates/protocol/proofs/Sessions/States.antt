@@ -41,7 +41,7 @@ pair_true roles p q h k n = rw (lt-ltb p roles h, lt-ltb q roles k, ne_eqb p q n
 
 pub record Pair (roles p q : ℕ) : Type 0 where
   pub sender_in : p < roles
-  pub receiver_in_lem : q < roles
+  pub receiver_in : q < roles
   pub different : p ≢ q
 
 pub pair_facts : (roles p q : ℕ) → are_pair roles p q ≡ true → Pair roles p q
@@ -50,7 +50,7 @@ pair_facts roles p q e =
     let (e₂, f₂) = both (ltb p roles) (ltb q roles) e₁ in
     record {
       sender_in = ltb-true p roles e₂;
-      receiver_in_lem = ltb-true q roles f₂;
+      receiver_in = ltb-true q roles f₂;
       different = λ h. true≢false (sym f₁ ∙ ap not (eq-eqb p q h));
     }
 

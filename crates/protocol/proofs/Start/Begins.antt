@@ -70,6 +70,7 @@ module _ (A : Type 0) (view : ℕ → View) (head : ℕ → ℕ) (r : ℕ) where
   around_at g (v_new i f e) (n_there t) h = around_at g e t (omega arith)
   around_at {n = n} g (v_old i f e) n_here h = f n (omega arith)
   around_at g (v_old i f e) (n_there t) h = around_at g e t (omega arith)
+  around_at g v_nil f h = elim f [ ]
 
   around_less : {n d : ℕ} {σ : List (Global A)} {ρ : List ℕ} (m : ℕ) → m < n → Around n d σ ρ → Around m 0 σ ρ
   around_less m h v_nil = v_nil

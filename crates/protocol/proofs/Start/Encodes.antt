@@ -58,6 +58,7 @@ pub found_row : {view : ℕ → View} {l : ℕ} {M : Part} {ρ : List ℕ} {ms :
 found_row {l = l} (ea_arm {l = k} {x = x} {arms = arms} e es) (at_here h) = (x, find_here l k x arms h, e)
 found_row {l = l} (ea_arm {l = k} {x = x} {arms = arms} e es) (at_there n t) =
     let (y, f, e') = found_row es t in (y, find_there l k x arms n ∙ f, e')
+found_row ea_nil h = elim h [ ]
 
 at_or : {l k : ℕ} {M : Part} {ms : PartArms} → Dec (l ≡ k) → (l ≢ k → (N : Part) × At l N ms) → (N : Part) × At l N (p_arm k M ms)
 at_or {M = M} (yes h) f = (M, at_here h)
