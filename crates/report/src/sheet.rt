@@ -1,6 +1,7 @@
 // The figures for a person: hours and minutes, and a bar for each.
 use hours::Figures;
 use std::io;
+use std::io::Write;
 use table::{Table, Verdict};
 
 fn write(rt: &impl Print, text: &[u8]) -> io::Result<()> {
