@@ -1,5 +1,7 @@
 // Functions below the C boundary that other crates may call, put at it for the tests of boundary/ alone: that each ends soon and goes no deeper
 // than its table, whatever the words.
+#![tactic(auto)]
+
 use projection::PARTS;
 
 #[unsafe(no_mangle)]
