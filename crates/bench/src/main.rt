@@ -116,7 +116,15 @@ fn main(rt: HostRuntime) -> io::Result<()> {
             turns = 1;
             count = last(&mut input, reading.length);
         }
-        reading = take_all(&rt, reading, &input, count, &mut line, &mut numbers, &mut tables)?;
+        reading = take_all(
+            &rt,
+            reading,
+            &input,
+            count,
+            &mut line,
+            &mut numbers,
+            &mut tables,
+        )?;
         turns -= 1;
     }
     Ok(())

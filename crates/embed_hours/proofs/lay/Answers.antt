@@ -15,7 +15,7 @@ loop-role-init c =
     let long : length c.args.figures ≡ base.roles = search rules in
     let least : Least c.if-places-lt-ROLES.count c.args.figures c.args.places.now =
     elim c.if-places-lt-ROLES.branch [
-      then-places-lt-ROLES w ↦ inl (w.count-is, omega (arith, long, w.count-is))
+      | then-places-lt-ROLES w ↦ inl (w.count-is, omega (arith, long, w.count-is))
       | else-places-lt-ROLES w ↦ inr (w.count-is ∙ sym long, omega (arith, w.count-is))
     ] in
     let (a, b) = least_le c.args.figures c.args.places.now c.if-places-lt-ROLES.count least in

@@ -6,7 +6,7 @@ use Rattle.orders.proofs.order.Goals as goal
 
 pub returns-then-letter-eq111 : goal.returns-then-letter-eq111
 unfolding order_of
-returns-then-letter-eq111 c = rw c.if-letter-eq111.true c.«open».ensures{-STEP?-}
+returns-then-letter-eq111 c = rw c.if-letter-eq111.true c.«open».ensures {-STEP?-}
 
 pub returns-then-letter-eq116 : goal.returns-then-letter-eq116
 unfolding order_of

@@ -16,8 +16,7 @@ loop-rule-init c = turn_start _ _
 pub lowest-row-requires : goal.lowest-row-requires
 lowest-row-requires c =
     let h = c.loop-rule-test.true in
-    let turn = c.loop-rule.invariant in
-    (
+    let turn = c.loop-rule.invariant in (
       (c.requires, c.name_rows-named.ensures.1, c.count_loops-loops.ensures),
       turn_low _ _ _ turn h,
       h,

@@ -67,7 +67,7 @@ loop-at-preserved c =
     let inside = turning.0 in
     let to = c.wide-at.ensures.0 in
     elim c.match-kind.branch [
-      in-3 w ↦ (
+      | in-3 w ↦ (
         omega arith,
         rw to (came_on ts start _ _ at _ c.loop-at.invariant.1 (loop_leads ts start at read w.in-3.is)),
         λ h. loop_out ts start _ at inside read (rw to at h) w.in-3.is,

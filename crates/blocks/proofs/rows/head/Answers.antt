@@ -21,6 +21,6 @@ pub loop-left-preserved : goal.loop-left-preserved
 loop-left-preserved c =
     let e : c.loop-left.left ≡ suc (c.loop-left.left - 1) = omega arith in
     elim c.match-kind.branch [
-      in-3 w ↦ rw w.at-is (c.loop-left.invariant ∙ follow_loop c.args.tables.now c.args.start e c.wide.ensures.0 c.row_at-part.ensures w.in-3.is)
+      | in-3 w ↦ rw w.at-is (c.loop-left.invariant ∙ follow_loop c.args.tables.now c.args.start e c.wide.ensures.0 c.row_at-part.ensures w.in-3.is)
       | in-4 w ↦ rw w.at-is (c.loop-left.invariant ∙ follow_back c.args.tables.now c.args.start e c.wide.ensures.0 c.row_at-part.ensures w.in-4.is)
     ]

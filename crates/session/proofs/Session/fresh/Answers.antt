@@ -16,6 +16,6 @@ returns c =
     let heads = c.first_heads.ensures in
     c.of.ensures
     ∙ elim c.if-rows-eq0.branch [
-      then-rows-eq0 w ↦ rw w.number-is (fresh_refused a.tables.now a.roles _ found heads w.if-rows-eq0.true)
+      | then-rows-eq0 w ↦ rw w.number-is (fresh_refused a.tables.now a.roles _ found heads w.if-rows-eq0.true)
       | else-rows-eq0 w ↦ rw w.number-is (fresh_accepted a.tables.now a.roles _ found heads w.if-rows-eq0.false)
     ]

@@ -25,7 +25,7 @@ loop-role-preserved c =
       omega arith,
       rw add-one
           (elim c.if-role-roles.branch [
-            then-role-roles w ↦ w.heads-is ∙ one_head c.args.tables.now c.args.roles c.args.rows _ _ c.loop-role.start _ left c.loop-role.invariant.3 c.loop-role.invariant.1 w.if-role-roles.true _ w.head.ensures
+            | then-role-roles w ↦ w.heads-is ∙ one_head c.args.tables.now c.args.roles c.args.rows _ _ c.loop-role.start _ left c.loop-role.invariant.3 c.loop-role.invariant.1 w.if-role-roles.true _ w.head.ensures
             | else-role-roles w ↦ w.heads-is ∙ no_head c.args.tables.now c.args.roles c.args.rows _ _ c.loop-role.start _ left c.loop-role.invariant.3 w.if-role-roles.false
           ]),
     )

@@ -50,7 +50,7 @@ loop-role-preserved c =
       omega arith,
       rw add-one
           (elim c.if-can_act.branch [
-            then-can_act w ↦ w.set-is ∙ ap (λ (t : ℕ). bit_or t (1 * 2 ^ r % 2 ^ 8)) c.loop-role.invariant.5 ∙ set_or 8 p r (omega arith) (sym e ∙ w.if-can_act.true)
+            | then-can_act w ↦ w.set-is ∙ ap (λ (t : ℕ). bit_or t (1 * 2 ^ r % 2 ^ 8)) c.loop-role.invariant.5 ∙ set_or 8 p r (omega arith) (sym e ∙ w.if-can_act.true)
             | else-can_act w ↦ w.set-is ∙ c.loop-role.invariant.5 ∙ set_not p r (sym e ∙ w.if-can_act.false)
           ]),
     )
