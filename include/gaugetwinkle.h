@@ -1,4 +1,4 @@
-/* Gaugetwinkle's C boundary. Link libembed.a (rt staticlib embed).
+/* Gaugetwinkle's C boundary. Link libembed.a (`rt lib` in crates/embed).
  *
  * Every call is total: any table, any tables, any state, any lengths get a number, and a refused send or receive changes nothing.
  * What no call can test is where a pointer leads. So:

@@ -1,5 +1,5 @@
 //! Public functions below the C boundary end soon and go no deeper than their table, whatever the words: two inputs on which they once ran away.
-//! `rt staticlib probe` comes first.
+//! `rt lib` in crates/probe comes first.
 
 use boundary::clock::thread_time;
 use second::limits::{MOST_ROLES, MOST_ROWS};

@@ -1,7 +1,6 @@
 -- A refused call over lent slices leaves them as they were. Assumes nothing.
 use Prim.Native.Nat.{ℕ}
 use mathlib.Core.Bool.{Bool, true, false, cond}
-use mathlib.Core.List.{List}
 use mathlib.Core.Path.{refl}
 use Rattle.table.specs.Limits.{Limits}
 use Rattle.session.specs.State.{nothing}

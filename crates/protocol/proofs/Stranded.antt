@@ -1,7 +1,6 @@
 -- K13 holds of every table that opens, whoever picks the arms. Assumes nothing.
 use Prim.Native.Nat.{ℕ, ◌<◌}
 use mathlib.Core.List.{List, [], ◌∷◌, ◌++◌}
-use mathlib.Core.Logic.{◌≢◌}
 use mathlib.Core.Path.{◌≡◌, refl, ◌∙◌}
 use native.Mathlib.Omega.{arith}
 use lib.ListN.{length}
@@ -13,11 +12,9 @@ use Rattle.blocks.specs.Head.{head}
 use Rattle.session.specs.State.{head_of}
 use Rattle.session.specs.Calls.{fresh_of}
 use Rattle.session.specs.declared.Session.{Session}
-use Rattle.protocol.specs.Steps.{Action, send, receive, subject, ArmOf, here, SomeArm, some_arm}
+use Rattle.protocol.specs.Steps.{Action, send, receive, subject, here, some_arm}
 use Rattle.protocol.specs.Engine.{Call, receives, caller, Engine, ours}
-use Rattle.protocol.specs.Left.{unread}
-use Rattle.protocol.specs.Each.{Each}
-use Rattle.protocol.specs.Demand3.{Every, every, after, ComesTo, Conforms}
+use Rattle.protocol.specs.Demand3.{after, ComesTo, Conforms}
 use Rattle.protocol.specs.Stranded.{
   Place,
   IsReceived,

@@ -28,7 +28,7 @@ pub record Reply (S : Type 0) : Type 0 where
   pub offered : ℕ
   pub state : S
 
--- the awaited roles: the number, the roles as one number (setOf), how many they are, the lowest
+-- the awaited roles: the number, the roles as one number (set_of), how many they are, the lowest
 pub record RoleSet : Type 0 where
   pub number : ℕ
   pub set : ℕ
@@ -41,9 +41,9 @@ pub record Engine (S : Type 0) : Type 1 where
   pub fresh : Reply S
   pub answer : Call → S → Reply S
   pub awaited : S → RoleSet
-  -- how many messages the queue from p to q holds: it may not say this as it likes (Demand3.held-exactly)
+  -- how many messages the queue from p to q holds: it may not say this as it likes (Demand3.held_exactly)
   pub held : S → ℕ → ℕ → ℕ
-  -- role r has ended: nor this (Demand3.ended-exactly)
+  -- role r has ended: nor this (Demand3.ended_exactly)
   pub ended : S → ℕ → Type 0
 
 -- ---- engines over this library's sessions, with the tables ts of so many roles

@@ -9,7 +9,6 @@ use Rattle.table.specs.Limits.{Limits}
 use Rattle.scribble.specs.Tokens.{Token, token}
 use Rattle.scribble.specs.Grammar.{Name, name_at, Stmt, message, choice, recursion, continue, Block, ends, then, Blocks, no_more, or}
 use Rattle.scribble.specs.Names.{spelled, stands_at, is_in, index_of}
-use Rattle.scribble.specs.mirror.Reader
 use Rattle.scribble.specs.mirror.Reader.{ReaderState, Control, Form, body, looped, chosen, Frame, frame, top, around, receiver_of, rows_made, q_stmt, q_arms, q_finish, go_to, name_met, statement_begun, label_met, label_as, list_as, end_as, framed, sender_met, receiver_met, chooser_met, rec_met, continue_met, special, block_opened, message_ends, message_in, block_closes, block_behind, role_listed, statement, role_met}
 use Rattle.scribble.specs.mirror.Acts.{names_met, message_read, do_stmt, do_block, do_blocks}
 

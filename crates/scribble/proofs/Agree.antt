@@ -8,7 +8,6 @@ use Rattle.table.specs.Limits.{Limits}
 use Rattle.scribble.specs.Tokens.{Token, token, same_sort, or_word, from_word, open_mark, end_of_text}
 use Rattle.scribble.specs.Grammar.{Name, Stmt, message, choice, recursion, continue, Block, Blocks, SyntaxTree, IsModule, module_ends, module_dot, IsRoles, roles_end, roles_comma, IsTypes, types_end, types_comma, IsPayload, payload_left_out, payload_empty, payload_types, IsStmt, is_message, is_choice, is_rec, is_continue, IsBlock, block_ends, block_then, IsBlocks, ors_none, ors_one, IsText, is_text}
 use Rattle.scribble.specs.Names.{spelled, stands_at}
-use Rattle.scribble.specs.mirror.Reader
 use Rattle.scribble.specs.mirror.Reader.{ReaderState, Control, body, Frame, frame, q_stmt, q_arms, q_payload, q_sender, q_sent, q_types, q_from, q_roles, q_dots, q_global, q_open, go_to, name_met, statement_begun, label_met, expecting, begun, q_listed, sender_met, receiver_met, chooser_met, rec_met, continue_met, special, block_opened, role_listed, statement, run}
 use Rattle.scribble.specs.mirror.Acts.{names_met, message_read, do_stmt, do_block, do_blocks, roles_listed, do_tree}
 use Rattle.scribble.proofs.Unique.{NoOr, block_no_or}

@@ -1,4 +1,4 @@
--- Request K1 on small texts: what comes back for each, with its reason. That it does is proofs/Examples.examples-hold, one computation. Assumes nothing.
+-- Request K1 on small texts: what comes back for each, with its reason. That it does is proofs/Examples.examples_hold, one computation. Assumes nothing.
 use Rattle.std.specs.Prelude.{ℕ, List, [], ◌∷◌}
 use Prim.Native.String.{String}
 use Rattle.table.specs.Limits.{Limits, base}

@@ -3,7 +3,7 @@ use Prim.Native.Nat.{ℕ}
 use mathlib.Core.Bool.{Bool, true, false, not}
 use mathlib.Core.List.{List}
 use mathlib.Core.Option.{Option, none, some}
-use mathlib.Core.Path.{◌≡◌, refl, ◌∙◌, ap}
+use mathlib.Core.Path.{◌≡◌, refl}
 use lib.Dec.{leb, eqb}
 use Rattle.table.specs.Limits.{Limits}
 use Rattle.blocks.specs.Block.{PartRow, End, Arm, Loop, Back, Send, Receive, Other, part_row}

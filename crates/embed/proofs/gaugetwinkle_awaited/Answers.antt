@@ -1,6 +1,5 @@
 -- `embed::gaugetwinkle_awaited` meets its contract. Assumes nothing.
 use mathlib.Core.Path.{refl}
-use borrow.Author.Rules.{rules}
 use Rattle.embed.proofs.Handing.{awaited_made, nobody_told}
 use Rattle.embed.proofs.gaugetwinkle_awaited.Goals as goal
 

@@ -1,5 +1,4 @@
 -- `embed::gaugetwinkle_receive` meets its contract. Assumes nothing.
-use borrow.Author.Rules.{rules}
 use Rattle.table.specs.Limits.{base}
 use Rattle.session.specs.Calls.{receive_of}
 use Rattle.embed.proofs.Handing.{handed, said}

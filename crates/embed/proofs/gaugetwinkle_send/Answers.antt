@@ -1,5 +1,4 @@
 -- `embed::gaugetwinkle_send` meets its contract. Assumes nothing.
-use borrow.Author.Rules.{rules}
 use Rattle.table.specs.Limits.{base}
 use Rattle.session.specs.Calls.{send_of}
 use Rattle.embed.proofs.Handing.{handed, said}

@@ -1,5 +1,4 @@
 -- `embed::made` meets its contract. Assumes nothing.
-use borrow.Author.Rules.{rules}
 use Rattle.embed.proofs.made.Goals as goal
 
 pub returns-then-given : goal.returns-then-given

@@ -1,5 +1,4 @@
 -- `embed::received` meets its contract. Assumes nothing.
-use borrow.Author.Rules.{rules}
 use Rattle.embed.proofs.received.Goals as goal
 
 pub returns-then-given : goal.returns-then-given

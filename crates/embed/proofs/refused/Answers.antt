@@ -1,6 +1,5 @@
 -- `embed::refused` meets its contract. Assumes nothing.
 use mathlib.Core.Path.{◌∙◌}
-use borrow.Author.Rules.{rules}
 use Rattle.embed.proofs.refused.Goals as goal
 
 pub returns : goal.returns

@@ -1,5 +1,4 @@
 -- `embed::sent` meets its contract. Assumes nothing.
-use borrow.Author.Rules.{rules}
 use Rattle.embed.proofs.sent.Goals as goal
 
 pub returns-then-given : goal.returns-then-given

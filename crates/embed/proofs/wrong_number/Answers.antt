@@ -1,6 +1,5 @@
 -- `embed::wrong_number` meets its contract. Assumes nothing.
 use Rattle.embed.proofs.Handing.{wrong_tables, wrong_state}
-use borrow.Author.Rules.{rules}
 use Rattle.embed.proofs.wrong_number.Goals as goal
 
 pub returns-then-rows_of-eq0 : goal.returns-then-rows_of-eq0

@@ -1,6 +1,5 @@
 -- `embed_hours::gaugetwinkle_report` meets its contract. Assumes nothing.
 use mathlib.Core.Path.{ap, ◌∙◌}
-use borrow.Author.Rules.{rules}
 use Rattle.hours.specs.declared.Figures.{Figures}
 use Rattle.embed_hours.specs.Lent.{laid}
 use Rattle.embed_hours.proofs.gaugetwinkle_report.Goals as goal

@@ -1,12 +1,9 @@
 -- `embed_hours::lay` meets its contract. The loop's invariant: the figures of the roles below this one are laid. Assumes nothing.
 use Prim.Native.Nat.{◌-◌, ◌≤◌}
-use mathlib.Core.Logic.{inl, inr, ⊎_elim}
-use mathlib.Core.Path.{◌≡◌, refl, sym, ap, ◌∙◌}
-use native.Mathlib.Omega.{arith}
-use borrow.Author.Rules.{rules}
-use lib.ListN.{length, length-set}
+use mathlib.Core.Path.{◌≡◌}
+use lib.ListN.{length}
 use Rattle.table.specs.Limits.{base}
-use Rattle.embed_hours.proofs.Laid.{laid_to, laid_more, Least, least_le, laid_all}
+use Rattle.embed_hours.proofs.Laid.{laid_to, Least}
 use Rattle.embed_hours.proofs.lay.Given as goal
 
 abbrev pub invariant-loop-role : goal.invariant-loop-role

@@ -1,9 +1,9 @@
 -- `report::report` meets its contract: the tally of no record, of one more, and the answer after the last. Assumes nothing.
-use Rattle.std.proofs.Common.{◌≡◌, ap, ◌∙◌, refl, sym, arith}
+use Rattle.std.proofs.Common.{◌≡◌, ap, ◌∙◌, sym, arith}
 use native.Mathlib.Numerals.{add-one}
 use Rattle.table.specs.Limits.{base}
 use Rattle.hours.specs.mirror.Tally.{finish_of, after}
-use Rattle.hours.proofs.Turns.{turns_few, after_none, after_next, report_is}
+use Rattle.hours.proofs.Turns.{after_none, after_next, report_is}
 use Rattle.hours.proofs.report.Goals as goal
 
 pub loop-i-init : goal.loop-i-init

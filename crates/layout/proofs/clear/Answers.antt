@@ -1,10 +1,8 @@
 -- `layout::clear` meets its contract. The loop's invariant: the rows passed hold zeros. Assumes nothing.
-use Prim.Native.Nat.{◌+◌, ◌-◌, ◌≤◌}
+use Prim.Native.Nat.{◌+◌, ◌-◌}
 use mathlib.Core.Path.{◌≡◌, refl}
-use lib.ListN.{length}
 use native.Mathlib.Omega.{arith}
 use borrow.Author.Rules.{rules}
-use Rattle.layout.specs.mirror.Lay.{clear_s}
 use Rattle.layout.proofs.Lays.{clear_none, clear_more}
 use Rattle.layout.proofs.clear.Goals as goal
 

@@ -2,7 +2,6 @@
 use mathlib.Core.Path.{refl}
 use native.Mathlib.Omega.{arith}
 use Rattle.layout.proofs.Lays.{end_whole, end_arm}
-use borrow.Author.Rules.{rules}
 use Rattle.layout.proofs.end_part.Goals as goal
 
 pub returns-then-wait-eq0 : goal.returns-then-wait-eq0

@@ -1,10 +1,7 @@
 -- `layout::lay` meets its contract. The loop's invariant: what is left to do from here leaves what the whole call leaves. Assumes nothing.
-use Prim.Native.Nat.{◌≤◌}
-use mathlib.Core.Path.{◌≡◌, refl, ◌∙◌}
+use mathlib.Core.Path.{refl, ◌∙◌}
 use native.Mathlib.Omega.{arith}
-use lib.ListN.{length}
 use borrow.Author.Rules.{rules}
-use Rattle.layout.specs.mirror.Lay.{LIMIT, run_s, rest}
 use Rattle.layout.proofs.Lays.{in_range, lay_done}
 use Rattle.layout.proofs.lay.Goals as goal
 

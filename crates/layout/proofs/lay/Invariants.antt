@@ -1,11 +1,8 @@
 -- `layout::lay` meets its contract. The loop's invariant: what is left to do from here leaves what the whole call leaves. Assumes nothing.
 use Prim.Native.Nat.{◌≤◌}
-use mathlib.Core.Path.{◌≡◌, refl, ◌∙◌}
-use native.Mathlib.Omega.{arith}
+use mathlib.Core.Path.{◌≡◌}
 use lib.ListN.{length}
-use borrow.Author.Rules.{rules}
 use Rattle.layout.specs.mirror.Lay.{LIMIT, run_s, rest}
-use Rattle.layout.proofs.Lays.{in_range, lay_done}
 use Rattle.layout.proofs.lay.Given as goal
 
 abbrev pub invariant-loop-out : goal.invariant-loop-out

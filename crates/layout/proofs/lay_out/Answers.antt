@@ -1,7 +1,6 @@
 -- `layout::lay_out` meets its contract: `lay` writes the rows, `clear` the zeros behind them. Assumes nothing.
 use mathlib.Core.Path.{refl}
 use lib.Dec.{ltb}
-use borrow.Author.Rules.{rules}
 use borrow.Author.Tests.{ltb-false}
 use Rattle.words.proofs.Below.{or_neither}
 use Rattle.layout.specs.mirror.Lay.{LIMIT, lay_out}

@@ -3,7 +3,6 @@ use mathlib.Core.Bool.{true, false}
 use mathlib.Core.Path.{◌∙◌}
 use native.Mathlib.Omega.{arith}
 use Rattle.layout.proofs.Lays.{back_in, back_row}
-use borrow.Author.Rules.{rules}
 use Rattle.layout.proofs.loop_row.Goals as goal
 
 pub overflow_sub-depth : goal.overflow_sub-depth

@@ -1,7 +1,6 @@
 -- `layout::next_row` meets its contract. Assumes nothing.
 use mathlib.Core.Path.{◌∙◌}
 use Rattle.layout.proofs.Lays.{next_far, next_arm_lem, next_none}
-use borrow.Author.Rules.{rules}
 use Rattle.layout.proofs.next_row.Goals as goal
 
 pub returns-then-row-gt-LIMIT : goal.returns-then-row-gt-LIMIT

@@ -1,6 +1,5 @@
 -- `layout::open_arm` meets its contract. Assumes nothing.
 use Rattle.layout.proofs.Lays.{open_row}
-use borrow.Author.Rules.{rules}
 use Rattle.layout.proofs.open_arm.Goals as goal
 
 pub returns : goal.returns

@@ -1,6 +1,5 @@
 -- `layout::put_action` meets its contract. Assumes nothing.
 use Rattle.layout.proofs.Lays.{action_row}
-use borrow.Author.Rules.{rules}
 use Rattle.layout.proofs.put_action.Goals as goal
 
 pub returns : goal.returns

@@ -1,7 +1,6 @@
 -- `layout::put_loop` meets its contract. Assumes nothing.
 use mathlib.Core.Path.{◌∙◌}
 use Rattle.layout.proofs.Lays.{loop_row_lem}
-use borrow.Author.Rules.{rules}
 use Rattle.layout.proofs.put_loop.Goals as goal
 
 pub returns : goal.returns

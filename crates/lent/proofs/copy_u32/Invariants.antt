@@ -1,10 +1,7 @@
 -- `lent::copy_u32` meets its contract. Assumes nothing.
 use Prim.Native.Nat.{◌-◌}
-use mathlib.Core.Path.{refl}
-use native.Mathlib.Omega.{arith}
-use borrow.Author.Rules.{rules}
 use lib.ListN.{length}
-use Rattle.lent.proofs.Copied.{Copying, copying_more, copying_ends, stays}
+use Rattle.lent.proofs.Copied.{Copying}
 use Rattle.lent.proofs.copy_u32.Given as goal
 
 abbrev pub invariant-loop-i : goal.invariant-loop-i

@@ -1,9 +1,7 @@
 -- `lent::copy_u8` meets its contract. Assumes nothing.
-use Prim.Native.Nat.{◌-◌}
 use mathlib.Core.Path.{refl}
 use native.Mathlib.Omega.{arith}
-use lib.ListN.{length}
-use Rattle.lent.proofs.Copied.{Copying, copying_more, copying_ends, stays}
+use Rattle.lent.proofs.Copied.{copying_more, copying_ends, stays}
 use Rattle.lent.proofs.copy_u8.Goals as goal
 
 pub returns-then-to-from : goal.returns-then-to-from

@@ -1,5 +1,4 @@
 -- `lent::read_in` meets its contract. Assumes nothing.
-use borrow.Author.Rules.{rules}
 use Rattle.lent.proofs.read_in.Goals as goal
 
 pub returns : goal.returns

@@ -1,5 +1,4 @@
 -- `logs::figures` meets its contract. Assumes nothing.
-use borrow.Author.Rules.{rules}
 use Rattle.logs.proofs.figures.Goals as goal
 
 pub returns : goal.returns

@@ -1,7 +1,5 @@
 -- `logs::put` meets its contract. Assumes nothing.
 use mathlib.Core.Path.{refl}
-use native.Mathlib.Omega.{arith}
-use borrow.Author.Rules.{rules}
 use Rattle.hours.specs.Arrays.{record_of}
 use Rattle.logs.proofs.Recording.{full_holds, more_held}
 use Rattle.logs.proofs.put.Goals as goal

@@ -1,7 +1,6 @@
 -- `logs::read` meets its contract. Assumes nothing.
 use mathlib.Core.Path.{refl}
 use native.Mathlib.Omega.{arith}
-use borrow.Author.Rules.{rules}
 use Rattle.logs.proofs.Reading.{none_read, all_read}
 use Rattle.logs.proofs.read.Goals as goal
 

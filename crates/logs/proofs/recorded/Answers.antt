@@ -1,13 +1,7 @@
 -- `logs::recorded` meets its contract. Assumes nothing.
-use mathlib.Core.Path.{sym, ap, ◌∙◌}
-use native.Mathlib.Omega.{arith}
-use borrow.Author.Rules.{rules}
-use lib.ListN.{get_or}
-use Prim.Native.Nat.{ℕ}
-use Rattle.hours.specs.Arrays.{record_of}
-use Rattle.logs.specs.Lines.{logged, record_more}
+use mathlib.Core.Path.{sym, ◌∙◌}
 use Rattle.logs.specs.Logs.{records}
-use Rattle.logs.proofs.Recording.{small, other_count, too_wide, one_record, keeps_fault, keeps_log}
+use Rattle.logs.proofs.Recording.{other_count, keeps_fault}
 use Rattle.logs.proofs.recorded.Goals as goal
 
 pub returns-then-count-ne3 : goal.returns-then-count-ne3

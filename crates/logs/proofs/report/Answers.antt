@@ -1,6 +1,5 @@
 -- `logs::report` meets its contract. Assumes nothing.
 use mathlib.Core.Path.{◌∙◌}
-use borrow.Author.Rules.{rules}
 use Rattle.table.specs.Limits.{base}
 use Rattle.logs.proofs.Recording.{cut_is, even_report}
 use Rattle.logs.proofs.report.Goals as goal

@@ -1,8 +1,5 @@
 -- `merge::merge` meets its contract, by one law a rule. The measure is the number of rows left. Assumes nothing.
-use borrow.Author.Rules.{rules}
-use native.Mathlib.Omega.{arith}
 use Rattle.merge.proofs.Steps.{over5, way0, way1, way2, way3, way4, way5, way6}
-use Prim.Native.Nat.{ℕ, ◌<◌}
 use Rattle.merge.proofs.+merge.Goals as goal
 
 pub returns-in-0 : goal.returns-in-0

@@ -1,6 +1,5 @@
 -- `merge::arm_rule` meets its contract. Assumes nothing.
 use Rattle.merge.specs.mirror.Merging.{arm_rule}
-use borrow.Author.Rules.{rules}
 use Rattle.merge.proofs.arm_rule.Goals as goal
 
 pub returns : goal.returns

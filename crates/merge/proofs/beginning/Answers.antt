@@ -1,7 +1,6 @@
 -- `merge::beginning` meets its contract. Assumes nothing.
 use mathlib.Core.Bool.{Bool, cond}
 use mathlib.Core.Path.{sym, ◌∙◌, ap}
-use borrow.Author.Rules.{rules}
 use Rattle.merge.proofs.Steps.{begin_none, begin_by}
 use Rattle.merge.proofs.beginning.Goals as goal
 

@@ -1,12 +1,11 @@
 -- `merge::behind` meets its contract. The loop's invariant: the place behind what is still owed is that behind the whole, and no more
 -- is owed than words were passed. The measure is the number of words left. Assumes nothing.
-use Prim.Native.Nat.{◌+◌, ◌-◌, ◌<◌, ◌≤◌}
-use mathlib.Core.Path.{◌≡◌, refl, sym, ap, ◌∙◌}
+use Prim.Native.Nat.{◌<◌}
+use mathlib.Core.Path.{refl, sym, ap, ◌∙◌}
 use native.Mathlib.Omega.{arith}
 use lib.ListN.{length}
-use borrow.Author.Rules.{rules}
 use borrow.Author.Tests.{ltb-true}
-use Rattle.merge.specs.mirror.Merging.{kids, behind_on, behind_of}
+use Rattle.merge.specs.mirror.Merging.{kids}
 use Rattle.merge.proofs.Steps.{both_true, behind_turn, behind_left}
 use Rattle.merge.proofs.behind.Goals as goal
 

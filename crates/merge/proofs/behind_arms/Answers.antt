@@ -1,12 +1,11 @@
 -- `merge::behind_arms` meets its contract. The loop's invariant: what is left to pass, in some number of turns that suffices, leads
 -- where the whole leads. The measure is the number of words left. Assumes nothing.
-use Prim.Native.Nat.{ℕ, ◌+◌, ◌-◌, ◌<◌, ◌≤◌}
+use Prim.Native.Nat.{◌-◌, ◌<◌}
 use mathlib.Core.Path.{◌≡◌, refl, sym, ◌∙◌}
 use mathlib.Core.Bool.{true}
 use native.Mathlib.Omega.{arith}
 use lib.ListN.{length}
-use borrow.Author.Rules.{rules}
-use Rattle.merge.specs.mirror.Merging.{comes_first, behind_arms_on}
+use Rattle.merge.specs.mirror.Merging.{comes_first}
 use Rattle.merge.proofs.Steps.{first_is, arms_turn, arms_left}
 use Rattle.merge.proofs.behind_arms.Goals as goal
 

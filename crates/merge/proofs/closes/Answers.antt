@@ -5,9 +5,7 @@ use mathlib.Core.Path.{◌≡◌, refl, sym, ◌∙◌}
 use native.Mathlib.Omega.{arith}
 use lib.Dec.{eqb}
 use lib.ListN.{length}
-use borrow.Author.Rules.{rules}
 use borrow.Author.Tests.{ltb-true}
-use Rattle.merge.specs.mirror.Merging.{closes}
 use Rattle.merge.proofs.Steps.{both_true, closes_turn, closes_left}
 use Rattle.merge.proofs.closes.Goals as goal
 

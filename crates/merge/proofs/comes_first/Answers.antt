@@ -1,5 +1,4 @@
 -- `merge::comes_first` meets its contract. Assumes nothing.
-use borrow.Author.Rules.{rules}
 use Rattle.merge.proofs.comes_first.Goals as goal
 
 pub returns : goal.returns

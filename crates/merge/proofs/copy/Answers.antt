@@ -1,13 +1,12 @@
 -- `merge::copy` meets its contract. The loop's invariant: what is left to do gives what the whole gives, and no more is owed than words were
 -- passed. The measure is the number of words left. Assumes nothing.
-use Prim.Native.Nat.{◌+◌, ◌-◌, ◌<◌, ◌≤◌}
-use mathlib.Core.Path.{◌≡◌, refl, ap, ◌∙◌}
+use Prim.Native.Nat.{◌<◌}
+use mathlib.Core.Path.{refl, ap, ◌∙◌}
 use native.Mathlib.Omega.{arith}
 use lib.Dec.{ltb}
 use lib.ListN.{length, length-set}
-use borrow.Author.Rules.{rules}
 use borrow.Author.Tests.{ltb-true}
-use Rattle.merge.specs.mirror.Merging.{MOST, copy_on, copy_of}
+use Rattle.merge.specs.mirror.Merging.{MOST}
 use Rattle.merge.proofs.Steps.{both_true, copy_turn, copy_left}
 use Rattle.merge.proofs.copy.Goals as goal
 

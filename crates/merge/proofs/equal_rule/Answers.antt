@@ -1,6 +1,5 @@
 -- `merge::equal_rule` meets its contract. Assumes nothing.
 use Rattle.merge.specs.mirror.Merging.{equal_rule}
-use borrow.Author.Rules.{rules}
 use Rattle.merge.proofs.equal_rule.Goals as goal
 
 pub returns : goal.returns

@@ -4,8 +4,6 @@ use mathlib.Core.Path.{◌≡◌, sym, ◌∙◌}
 use mathlib.Core.Bool.{true}
 use native.Mathlib.Omega.{arith}
 use lib.ListN.{length}
-use borrow.Author.Rules.{rules}
-use borrow.Author.Tests.{not-true, not-false}
 use Rattle.merge.specs.mirror.Merging.{MOST, inside, step_of, step_out}
 use Rattle.merge.proofs.Steps.{inside_bounds, step_is}
 use Rattle.merge.proofs.first_rows.Goals as goal

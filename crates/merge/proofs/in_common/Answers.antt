@@ -1,12 +1,11 @@
 -- `merge::in_common` meets its contract. The loop's invariant: what is left to pass, in some number of turns that suffices, leads where the whole
 -- leads, and no more actions are counted than words were passed. The measure is the number of words left. Assumes nothing.
-use Prim.Native.Nat.{ℕ, ◌+◌, ◌-◌, ◌<◌, ◌≤◌}
+use Prim.Native.Nat.{◌-◌, ◌<◌}
 use mathlib.Core.Bool.{true}
 use mathlib.Core.Path.{◌≡◌, refl, sym, ◌∙◌}
 use native.Mathlib.Omega.{arith}
 use lib.ListN.{length}
-use borrow.Author.Rules.{rules}
-use Rattle.merge.specs.mirror.Merging.{shares, common_on}
+use Rattle.merge.specs.mirror.Merging.{shares}
 use Rattle.merge.proofs.Steps.{common_turn, common_left, shares_inside}
 use Rattle.merge.proofs.in_common.Goals as goal
 

@@ -1,5 +1,4 @@
 -- `merge::join` meets its contract. Assumes nothing.
-use borrow.Author.Rules.{rules}
 use Rattle.merge.proofs.Steps.{join_steps}
 use Rattle.merge.proofs.join.Goals as goal
 

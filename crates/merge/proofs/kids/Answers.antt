@@ -2,7 +2,6 @@
 use mathlib.Core.Path.{◌≡◌}
 use Rattle.merge.specs.mirror.Merging.{kids}
 use Rattle.merge.proofs.Steps.{kids_small}
-use borrow.Author.Rules.{rules}
 use Rattle.merge.proofs.kids.Goals as goal
 
 pub returns : goal.returns

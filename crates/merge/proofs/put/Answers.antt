@@ -1,12 +1,10 @@
 -- `merge::put` meets its contract. The loop's invariant: what is left to put gives what the whole gives. Assumes nothing.
-use Prim.Native.Nat.{◌-◌, ◌<◌}
-use mathlib.Core.Path.{◌≡◌, refl, ap, ◌∙◌}
+use Prim.Native.Nat.{◌<◌}
+use mathlib.Core.Path.{refl, ap, ◌∙◌}
 use native.Mathlib.Nat.{sub-zero}
 use native.Mathlib.Omega.{arith}
 use lib.ListN.{length, length-set}
-use borrow.Author.Rules.{rules}
 use borrow.Author.Tests.{ltb-true}
-use Rattle.merge.specs.mirror.Merging.{put_on}
 use Rattle.merge.proofs.Steps.{both_true, put_turn, put_left}
 use Rattle.merge.proofs.put.Goals as goal
 

@@ -1,11 +1,9 @@
 -- `merge::put_marks` meets its contract. The loop's invariant: what is left to put gives what the whole gives. Assumes nothing.
 use Prim.Native.Nat.{◌<◌}
-use mathlib.Core.Path.{◌≡◌, refl, ap, ◌∙◌}
+use mathlib.Core.Path.{refl, ap, ◌∙◌}
 use native.Mathlib.Omega.{arith}
 use lib.ListN.{length, length-set}
-use borrow.Author.Rules.{rules}
 use borrow.Author.Tests.{ltb-true}
-use Rattle.merge.specs.mirror.Merging.{put_marks}
 use Rattle.merge.proofs.Steps.{both_true, marks_turn, marks_left}
 use Rattle.merge.proofs.put_marks.Goals as goal
 

@@ -1,6 +1,5 @@
 -- `merge::rule_of` meets its contract. Assumes nothing.
 use Rattle.merge.specs.mirror.Merging.{rule}
-use borrow.Author.Rules.{rules}
 use Rattle.merge.proofs.rule_of.Goals as goal
 
 pub returns : goal.returns

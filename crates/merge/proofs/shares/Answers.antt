@@ -3,7 +3,6 @@ use Prim.Native.Nat.{◌<◌}
 use native.Mathlib.Omega.{arith}
 use lib.Dec.{leb}
 use lib.ListN.{length}
-use borrow.Author.Rules.{rules}
 use borrow.Author.Tests.{leb-false}
 use Rattle.words.proofs.Below.{or_neither}
 use Rattle.merge.specs.mirror.Merging.{shares}

@@ -4,7 +4,6 @@ use mathlib.Core.Path.{◌≡◌}
 use mathlib.Core.Bool.{true}
 use native.Mathlib.Omega.{arith}
 use lib.ListN.{length}
-use borrow.Author.Rules.{rules}
 use Rattle.merge.specs.mirror.Merging.{receive_both, skip_of}
 use Rattle.merge.proofs.Steps.{receive_is}
 use Rattle.merge.proofs.skip.Goals as goal

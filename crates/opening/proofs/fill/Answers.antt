@@ -1,11 +1,7 @@
 -- `opening::fill` meets its contract: each turn writes one block behind those before it. Assumes nothing.
-use Prim.Native.Nat.{◌-◌, ◌≤◌}
 use mathlib.Core.Path.{◌≡◌, refl, ◌∙◌}
 use native.Mathlib.Omega.{arith}
-use borrow.Author.Rules.{rules}
-use lib.ListN.{length}
-use Rattle.table.specs.Limits.{base}
-use Rattle.opening.proofs.Filling.{first_row, Laid, laid_none, laid_more}
+use Rattle.opening.proofs.Filling.{first_row, laid_none, laid_more}
 use Rattle.opening.proofs.fill.Goals as goal
 
 pub loop-role-init : goal.loop-role-init

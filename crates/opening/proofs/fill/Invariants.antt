@@ -1,11 +1,9 @@
 -- `opening::fill` meets its contract: each turn writes one block behind those before it. Assumes nothing.
 use Prim.Native.Nat.{◌-◌, ◌≤◌}
-use mathlib.Core.Path.{◌≡◌, refl, ◌∙◌}
-use native.Mathlib.Omega.{arith}
-use borrow.Author.Rules.{rules}
+use mathlib.Core.Path.{◌≡◌}
 use lib.ListN.{length}
 use Rattle.table.specs.Limits.{base}
-use Rattle.opening.proofs.Filling.{first_row, Laid, laid_none, laid_more}
+use Rattle.opening.proofs.Filling.{Laid}
 use Rattle.opening.proofs.fill.Given as goal
 
 abbrev pub invariant-loop-role : goal.invariant-loop-role

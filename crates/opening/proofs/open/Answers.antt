@@ -1,6 +1,5 @@
 -- `opening::open` meets its contract: accepted, the room is filled; refused, it is not touched. Assumes nothing.
 use mathlib.Core.Path.{sym, ◌∙◌, ap}
-use borrow.Author.Rules.{rules}
 use borrow.Author.Tests.{eq-eqb, ne_eqb}
 use Rattle.table.specs.declared.Verdict.{Verdict}
 use Rattle.opening.specs.Opening.{room_of}

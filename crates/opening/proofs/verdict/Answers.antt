@@ -1,7 +1,6 @@
 -- `opening::verdict` meets its contract: each return is one step of the order in which rules are tested. Assumes nothing.
 use mathlib.Core.Path.{◌∙◌}
 use native.Mathlib.Omega.{arith}
-use borrow.Author.Rules.{rules}
 use Rattle.table.specs.Limits.{base}
 use Rattle.table.proofs.Sizes.{sizes_kept}
 use Rattle.opening.proofs.Order.{few_words, open_sized, open_room, open_parts}

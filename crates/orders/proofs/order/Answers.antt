@@ -1,7 +1,6 @@
 -- `orders::order` meets its contract. Assumes nothing.
 use borrow.Author.Tests.{ne_eqb}
 use Rattle.orders.specs.Orders.{order_of}
-use borrow.Author.Rules.{rules}
 use Rattle.orders.proofs.order.Goals as goal
 
 pub returns-then-letter-eq111 : goal.returns-then-letter-eq111

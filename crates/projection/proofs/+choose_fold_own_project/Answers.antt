@@ -2,11 +2,9 @@
 -- proofs/Walks.antt, and the measure is the number of links left to follow, twice, so that `choose` stands below the call that walked to it. Assumes nothing.
 use mathlib.Core.Path.{◌∙◌}
 use native.Mathlib.Omega.{arith}
-use borrow.Author.Rules.{rules}
 use Rattle.projection.proofs.Join.{joins_is}
 use Rattle.projection.proofs.Steps.{more_than_two, some_left, no_links, leaf_step, action_step, others_step, own_end, own_step, fold_end, fold_step}
 use Rattle.projection.proofs.Walks.{project_step}
-use Prim.Native.Nat.{ℕ, suc, ◌-◌, ◌*◌, ◌<◌}
 use Rattle.projection.proofs.+choose_fold_own_project.Goals as goal
 
 pub choose-returns-then-way-eq0 : goal.choose-returns-then-way-eq0

@@ -1,6 +1,5 @@
 -- `projection::arm_at` meets its contract. Assumes nothing.
 use mathlib.Core.Path.{◌∙◌}
-use borrow.Author.Rules.{rules}
 use Rattle.projection.proofs.arm_at.Goals as goal
 
 pub returns : goal.returns

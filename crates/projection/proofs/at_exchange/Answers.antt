@@ -1,7 +1,6 @@
 -- `projection::at_exchange` meets its contract. Assumes nothing.
 use mathlib.Core.Path.{◌∙◌}
 use native.Mathlib.Omega.{arith}
-use borrow.Author.Rules.{rules}
 use Rattle.projection.proofs.Rows.{send_plan, receive_plan, others_plan}
 use Rattle.projection.proofs.at_exchange.Goals as goal
 

@@ -1,5 +1,4 @@
 -- `projection::at_loop` meets its contract. Assumes nothing.
-use borrow.Author.Rules.{rules}
 use Rattle.projection.proofs.Rows.{loop_plan, idle_plan}
 use Rattle.projection.proofs.at_loop.Goals as goal
 

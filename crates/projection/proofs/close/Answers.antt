@@ -1,10 +1,6 @@
 -- `projection::close` meets its contract. Assumes nothing.
-use Prim.Native.Nat.{◌-◌, ◌≤◌}
-use mathlib.Core.Path.{◌≡◌, refl, ◌∙◌}
+use mathlib.Core.Path.{refl, ◌∙◌}
 use native.Mathlib.Omega.{arith}
-use borrow.Author.Rules.{rules}
-use lib.ListN.{length}
-use Rattle.projection.specs.mirror.Projects.{Closed}
 use Rattle.projection.proofs.Walks.{closed_none, closed_more, closed_all}
 use Rattle.projection.proofs.close.Goals as goal
 

@@ -1,6 +1,5 @@
 -- `projection::enter` meets its contract. Assumes nothing.
 use mathlib.Core.Path.{◌∙◌}
-use borrow.Author.Rules.{rules}
 use Rattle.projection.proofs.Walks.{enter_loop, enter_sole, enter_passed}
 use Rattle.projection.proofs.enter.Goals as goal
 

@@ -1,5 +1,4 @@
 -- `projection::leads_on` meets its contract. Assumes nothing.
-use borrow.Author.Rules.{rules}
 use Rattle.projection.proofs.Steps.{more_than_two}
 use Rattle.projection.proofs.Walks.{leads_others}
 use Rattle.projection.proofs.leads_on.Goals as goal

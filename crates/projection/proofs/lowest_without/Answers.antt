@@ -5,7 +5,6 @@ use Rattle.words.specs.Rows.{rows_of}
 use Rattle.table.specs.Limits.{base}
 use Rattle.table.proofs.Accepted.{obeys}
 use Rattle.table.proofs.Sizes.{measured}
-use borrow.Author.Rules.{rules}
 use Rattle.projection.proofs.lowest_without.Goals as goal
 
 pub overflow_mul-words : goal.overflow_mul-words

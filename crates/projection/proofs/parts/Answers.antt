@@ -1,5 +1,4 @@
 -- `projection::parts` meets its contract: the check, then rule 11. Assumes nothing.
-use borrow.Author.Rules.{rules}
 use native.Mathlib.Omega.{arith}
 use Rattle.projection.proofs.Order.{refused_early, checked, role_lacks, none_lacking, complete}
 use Rattle.projection.proofs.Tables.{all_words}

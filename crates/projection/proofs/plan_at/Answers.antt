@@ -1,6 +1,5 @@
 -- `projection::plan_at` meets its contract. Assumes nothing.
 use mathlib.Core.Path.{◌∙◌}
-use borrow.Author.Rules.{rules}
 use Rattle.projection.proofs.Rows.{at_exchange, at_loop, at_back, at_end}
 use Rattle.projection.proofs.plan_at.Goals as goal
 

@@ -1,6 +1,5 @@
 -- `projection::push` meets its contract. Assumes nothing.
 use native.Mathlib.Omega.{arith}
-use borrow.Author.Rules.{rules}
 use Rattle.projection.proofs.Steps.{push_stack}
 use Rattle.projection.proofs.push.Goals as goal
 

@@ -1,13 +1,9 @@
 -- `projection::put_all` meets its contract: each turn puts one part behind those before it. Assumes nothing.
-use Prim.Native.Nat.{◌-◌, ◌≤◌}
 use mathlib.Core.Bool.{not}
 use mathlib.Core.Path.{◌≡◌, refl, sym, ◌∙◌, ap}
 use native.Mathlib.Omega.{arith}
-use borrow.Author.Rules.{rules}
-use lib.ListN.{length}
 use Rattle.words.proofs.Below.{lowest_at, lowest_none}
-use Rattle.projection.specs.mirror.Projects.{Prepared}
-use Rattle.projection.proofs.Tables.{Upto, upto_none, lacking, upto_more, upto_all}
+use Rattle.projection.proofs.Tables.{upto_none, lacking, upto_more, upto_all}
 use Rattle.projection.proofs.put_all.Goals as goal
 
 pub loop-role-init : goal.loop-role-init

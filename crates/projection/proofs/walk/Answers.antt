@@ -2,8 +2,7 @@
 use mathlib.Core.Bool.{not}
 use mathlib.Core.Path.{ap}
 use native.Mathlib.Omega.{arith}
-use borrow.Author.Rules.{rules}
-use Rattle.projection.proofs.Walks.{Comes, comes_start, comes_on, walks, walks_nowhere}
+use Rattle.projection.proofs.Walks.{comes_start, comes_on, walks, walks_nowhere}
 use Rattle.projection.proofs.walk.Goals as goal
 
 pub loop-more-init : goal.loop-more-init

@@ -1,7 +1,5 @@
 -- `projection::walk` meets its contract. The invariant: the part of the first row is that of the row here, with words and marks around it. Assumes nothing.
-use native.Mathlib.Omega.{arith}
-use borrow.Author.Rules.{rules}
-use Rattle.projection.proofs.Walks.{Comes, comes_start, comes_on, walks, walks_nowhere}
+use Rattle.projection.proofs.Walks.{Comes}
 use Rattle.projection.proofs.walk.Given as goal
 
 abbrev pub invariant-loop-more : goal.invariant-loop-more

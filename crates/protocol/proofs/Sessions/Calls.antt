@@ -16,7 +16,7 @@ use Rattle.blocks.specs.Head.{ArmAt, head, arms_of, find, lowest_label}
 use Rattle.blocks.specs.Tables.{row_good, tables_good}
 use Rattle.state.specs.Numbers.{TABLES, STATE, PARTY, TURN, LABEL, FULL, EMPTY, STRAY}
 use Rattle.state.specs.State.{are_pair}
-use Rattle.session.specs.State.{head_of, held, label_at, payload_at, moved, pushed, taken}
+use Rattle.session.specs.State.{head_of, held, label_at, payload_at, moved, pushed}
 use Rattle.session.specs.Calls.{offering, answers, received, refused_if, send_arm, send_at, send_of, receive_arm, receive_at, receive_of}
 use Rattle.session.specs.declared.Answer.{Answer}
 use Rattle.session.specs.declared.Session.{Session}

@@ -1,6 +1,5 @@
 -- `report::take_all` is safe and ends: the bytes taken stay within the buffer, and one is taken in each turn. Assumes nothing.
 use Prim.Native.Nat.{◌-◌, ◌≤◌}
-use borrow.Author.Rules.{rules}
 use Rattle.report.proofs.take_all.Given as goal
 
 abbrev pub invariant-loop-i : goal.invariant-loop-i

@@ -1,7 +1,6 @@
 -- `rules::blamed` meets its contract: each arm of the match is one rule. Assumes nothing.
 use mathlib.Core.Path.{◌≡◌}
 use native.Mathlib.Omega.{arith}
-use borrow.Author.Rules.{rules}
 use Rattle.table.specs.Rules.{breaks}
 use Rattle.rules.specs.mirror.Blame.{blames}
 use Rattle.rules.proofs.blamed.Goals as goal

@@ -1,7 +1,6 @@
 -- `rules::check` meets its contract: a refusal by rules 1 and 2 does not look further, and past them the answer is that of rules 4 to 10. Assumes nothing.
 use mathlib.Core.Path.{sym, ◌∙◌}
 use native.Mathlib.Omega.{arith}
-use borrow.Author.Rules.{rules}
 use Rattle.table.specs.Limits.{base}
 use Rattle.table.specs.Check.{check_of}
 use Rattle.table.proofs.Sizes.{measured, sizes_kept, sizes_pass, sizes_stop}

@@ -1,12 +1,7 @@
 -- `rules::count_loops` meets its contract. The invariant: the places of the rows passed are filled. Assumes nothing.
 use Prim.Native.Nat.{◌-◌, ◌<◌}
-use mathlib.Core.Path.{sym, ◌∙◌}
-use lib.Dec.{eqb}
-use native.Mathlib.Omega.{arith}
 use Rattle.words.specs.Rows.{rows_of}
-use Rattle.table.proofs.Rows.{is_loop_lem, row_read}
-use Rattle.rules.proofs.Names.{namer_le}
-use Rattle.rules.proofs.Columns.{Columns, columns_start, columns_step, columns_end}
+use Rattle.rules.proofs.Columns.{Columns}
 use Rattle.rules.proofs.count_loops.Given as goal
 
 abbrev pub invariant-loop-row : goal.invariant-loop-row

@@ -1,10 +1,9 @@
 -- `rules::lowest` meets its contract. The invariant: the least of what was found at the rows passed. Assumes nothing.
-use Prim.Native.Nat.{◌-◌, ◌≤◌}
 use mathlib.Core.Path.{◌≡◌, refl}
 use native.Mathlib.Omega.{arith}
 use native.Mathlib.Numerals.{add-one}
 use Rattle.words.specs.Rows.{rows_of}
-use Rattle.rules.specs.mirror.Blame.{blames, rule_of, least}
+use Rattle.rules.specs.mirror.Blame.{least}
 use Rattle.rules.proofs.lowest.Goals as goal
 
 pub loop-row-init : goal.loop-row-init

@@ -1,8 +1,6 @@
 -- `rules::lowest` meets its contract. The invariant: the least of what was found at the rows passed. Assumes nothing.
 use Prim.Native.Nat.{◌-◌, ◌≤◌}
-use mathlib.Core.Path.{◌≡◌, refl}
-use native.Mathlib.Omega.{arith}
-use native.Mathlib.Numerals.{add-one}
+use mathlib.Core.Path.{◌≡◌}
 use Rattle.words.specs.Rows.{rows_of}
 use Rattle.rules.specs.mirror.Blame.{blames, rule_of, least}
 use Rattle.rules.proofs.lowest.Given as goal

@@ -1,7 +1,6 @@
 -- `rules::name` meets its contract: one store into each list, or none. Assumes nothing.
 use mathlib.Core.Path.{refl}
 use borrow.Author.Tests.{lt-ltb, le-ltb}
-use borrow.Author.Rules.{rules}
 use Rattle.rules.proofs.name.Goals as goal
 
 pub returns-then-to-lt-PLACES : goal.returns-then-to-lt-PLACES

@@ -1,9 +1,7 @@
 -- `rules::name_rows` meets its contract. The invariant: what the lists say with what the rows still to come will add is what they are to say. Assumes nothing.
 use Prim.Native.Nat.{◌≤◌}
-use mathlib.Core.Path.{◌≡◌}
-use native.Mathlib.Omega.{arith}
 use Rattle.words.specs.Rows.{rows_of}
-use Rattle.rules.proofs.Names.{Filling, filling_start, filling_turn, filling_end, put_bound}
+use Rattle.rules.proofs.Names.{Filling}
 use Rattle.rules.proofs.name_rows.Given as goal
 
 abbrev pub invariant-loop-row : goal.invariant-loop-row

@@ -1,6 +1,5 @@
 -- `rules::named_broken` meets its contract. Assumes nothing.
 use native.Mathlib.Omega.{arith}
-use borrow.Author.Rules.{rules}
 use Rattle.rules.proofs.Names.{named_is}
 use Rattle.rules.proofs.named_broken.Goals as goal
 

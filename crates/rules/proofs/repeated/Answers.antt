@@ -1,14 +1,12 @@
 -- `rules::repeated` meets its contract. The invariants: the walk is at the chain's arm of that number, no arm before it repeats a label, and
 -- no arm before the one compared with has its label. Assumes nothing.
-use Prim.Native.Nat.{ℕ, ◌≤◌, ◌<◌, ◌-◌}
-use mathlib.Core.Path.{◌≡◌, ◌∙◌, refl}
-use mathlib.Core.Bool.{false}
+use mathlib.Core.Path.{◌∙◌, refl}
 use native.Mathlib.Omega.{arith}
 use borrow.Author.Count.{below_none, below_more}
 use borrow.Author.Tests.{eq-eqb, ne_eqb}
 use Rattle.words.specs.Rows.{rows_of}
-use Rattle.rules.specs.mirror.Chain.{nth, stops}
-use Rattle.rules.proofs.Chain.{same, next_row, ended, found, goes_on, same_is, still}
+use Rattle.rules.specs.mirror.Chain.{nth}
+use Rattle.rules.proofs.Chain.{next_row, ended, found, goes_on, same_is, still}
 use Rattle.rules.proofs.repeated.Goals as goal
 
 pub chain-init : goal.chain-init

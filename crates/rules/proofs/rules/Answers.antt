@@ -1,7 +1,5 @@
 -- `rules::rules` meets its contract. The invariant: the rules before this one are kept, and the answer is that of the rules from this one on. Assumes nothing.
-use Prim.Native.Nat.{◌-◌}
-use native.Mathlib.Omega.{arith}
-use Rattle.rules.proofs.Order.{Turn, turn_start, turn_low, turn_rising, turn_refused, turn_next, turn_end}
+use Rattle.rules.proofs.Order.{turn_start, turn_low, turn_rising, turn_refused, turn_next, turn_end}
 use Rattle.rules.proofs.rules.Goals as goal
 
 pub name_rows-named-requires : goal.name_rows-named-requires

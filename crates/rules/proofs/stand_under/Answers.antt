@@ -1,7 +1,6 @@
 -- `rules::stand_under` meets its contract: one store into each list. Assumes nothing.
 use mathlib.Core.Path.{refl}
 use native.Mathlib.Nat.{add-zero}
-use borrow.Author.Rules.{rules}
 use Rattle.rules.proofs.stand_under.Goals as goal
 
 pub returns-then-looped : goal.returns-then-looped

@@ -1,6 +1,5 @@
 -- `rules::twice` meets its contract: only an Exchange has a chain. Assumes nothing.
 use mathlib.Core.Path.{sym}
-use borrow.Author.Rules.{rules}
 use Rattle.table.proofs.Rows.{row_read}
 use Rattle.rules.proofs.Chain.{no_chain}
 use Rattle.rules.proofs.twice.Goals as goal

@@ -1,5 +1,4 @@
 -- `rules::unbound_broken` meets its contract: only a Back is asked. Assumes nothing.
-use borrow.Author.Rules.{rules}
 use Rattle.table.proofs.Rows.{of_back_lem, row_read}
 use Rattle.rules.proofs.unbound_broken.Goals as goal
 

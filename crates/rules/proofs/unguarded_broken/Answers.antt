@@ -1,5 +1,4 @@
 -- `rules::unguarded_broken` meets its contract: only a Back is asked, and its own Loop is next to it exactly where enough Loops are. Assumes nothing.
-use borrow.Author.Rules.{rules}
 use Rattle.table.proofs.Rows.{of_back_lem, row_read}
 use Rattle.table.proofs.Walk.{only_loops_lem}
 use Rattle.rules.proofs.unguarded_broken.Goals as goal

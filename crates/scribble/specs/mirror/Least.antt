@@ -7,7 +7,7 @@ abbrev pub finding_of : ℕ → ℕ → Finding
 finding_of place zero = faultless
 finding_of place (suc n) = faulty place (suc n)
 
--- one fault more, where the test holds and the number is not 0: that it is the one that decides is proofs/Noting.note-decides
+-- one fault more, where the test holds and the number is not 0: that it is the one that decides is proofs/Noting.note_decides
 unfoldable pub noted : Blamed → Bool → ℕ → ℕ → Blamed
 noted least test place number =
     let sooner = ltb place least.place || (eqb place least.place && ltb number least.number) in

@@ -1,6 +1,5 @@
 -- `slots::labels_of` meets its contract. Assumes nothing.
 use native.Mathlib.Nat.{add-zero}
-use borrow.Author.Rules.{rules}
 use Rattle.slots.proofs.labels_of.Goals as goal
 
 pub returns : goal.returns

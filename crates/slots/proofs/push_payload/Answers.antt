@@ -1,6 +1,5 @@
 -- `slots::push_payload` meets its contract. Assumes nothing.
 use Rattle.slots.proofs.Forward.{put_in, no_pair, no_slot}
-use borrow.Author.Rules.{rules}
 use Rattle.slots.proofs.push_payload.Goals as goal
 
 pub returns-then-pair-ge-PAIRS : goal.returns-then-pair-ge-PAIRS

@@ -2,7 +2,6 @@
 use Prim.Native.Nat.{◌*◌}
 use lib.ListN.{get_or}
 use Rattle.slots.proofs.Forward.{four_sets}
-use borrow.Author.Rules.{rules}
 use Rattle.slots.proofs.put_labels.Goals as goal
 
 pub returns : goal.returns

@@ -1,7 +1,6 @@
 -- `slots::take_payload` meets its contract. Assumes nothing.
 use mathlib.Core.Path.{refl}
 use Rattle.slots.proofs.Forward.{forward_read, none_forward}
-use borrow.Author.Rules.{rules}
 use Rattle.slots.proofs.take_payload.Goals as goal
 
 pub returns-then-pair-ge-PAIRS : goal.returns-then-pair-ge-PAIRS

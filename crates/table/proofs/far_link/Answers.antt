@@ -1,5 +1,4 @@
 -- `table::far_link` meets its contract. Assumes nothing.
-use borrow.Author.Rules.{rules}
 use borrow.Author.Tests.{ne_eqb}
 use Rattle.table.proofs.Rows.{far_is, row_read}
 use Rattle.table.proofs.far_link.Goals as goal

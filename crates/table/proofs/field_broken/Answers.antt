@@ -1,7 +1,6 @@
 -- `table::field_broken` meets its contract: each arm of the match is the rule of that kind. Assumes nothing.
 use Prim.Native.Nat.{◌<◌}
 use native.Mathlib.Omega.{arith}
-use borrow.Author.Rules.{rules}
 use Rattle.table.proofs.Rows.{row_other, row_read}
 use Rattle.table.proofs.field_broken.Goals as goal
 

@@ -1,6 +1,5 @@
 -- `table::kind_broken` meets its contract: a kind above 4 is no row of the table. Assumes nothing.
 use mathlib.Core.Path.{sym}
-use borrow.Author.Rules.{rules}
 use Rattle.table.proofs.Rows.{is_kind, row_read}
 use Rattle.table.proofs.kind_broken.Goals as goal
 

@@ -1,7 +1,6 @@
 -- `table::link_broken` meets its contract: each arm of the match is the rule of that kind, and the other kinds have no link. Assumes nothing.
 use mathlib.Core.Path.{sym, refl, ap}
 use mathlib.Core.Bool.{false, not}
-use borrow.Author.Rules.{rules}
 use Rattle.table.specs.Rules.{link_broken}
 use Rattle.table.proofs.Rows.{no_link, row_read}
 use Rattle.table.proofs.link_broken.Goals as goal

@@ -1,6 +1,5 @@
 -- `table::near_link` meets its contract. Assumes nothing.
 use mathlib.Core.Path.{sym, refl}
-use borrow.Author.Rules.{rules}
 use Rattle.table.specs.mirror.Names.{near_link}
 use Rattle.table.proofs.Rows.{no_link, row_read}
 use Rattle.table.proofs.near_link.Goals as goal

@@ -1,6 +1,5 @@
 -- `table::read` meets its contract: the four words are the row. Assumes nothing.
 use native.Mathlib.Nat.{add-zero}
-use borrow.Author.Rules.{rules}
 use Rattle.table.specs.mirror.Read.{four_words}
 use Rattle.table.proofs.read.Goals as goal
 

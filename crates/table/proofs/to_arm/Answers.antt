@@ -1,5 +1,4 @@
 -- `table::to_arm` meets its contract. Assumes nothing.
-use borrow.Author.Rules.{rules}
 use Rattle.table.proofs.Rows.{is_arm_lem, row_read}
 use Rattle.table.proofs.to_arm.Goals as goal
 

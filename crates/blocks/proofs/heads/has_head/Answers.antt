@@ -2,7 +2,6 @@
 use mathlib.Core.Bool.{true≢false}
 use mathlib.Core.Path.{sym}
 use native.Mathlib.Omega.{arith}
-use borrow.Author.Rules.{rules}
 use Rattle.blocks.proofs.Far.{far_found}
 use Rattle.blocks.proofs.heads.has_head.Goals as goal
 

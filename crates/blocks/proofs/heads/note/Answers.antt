@@ -1,13 +1,10 @@
 -- `heads::note` meets its contract. The invariant: what is noted so far is right, and the head is as far from here as is left. Assumes nothing.
-use Prim.Native.Nat.{◌<◌, ◌≤◌}
-use mathlib.Core.Path.{◌≡◌, refl, ◌∙◌}
+use Prim.Native.Nat.{◌<◌}
+use mathlib.Core.Path.{refl, ◌∙◌}
 use native.Mathlib.Omega.{arith}
-use lib.ListN.{length}
 use lib.Dec.{ltb}
-use borrow.Author.Rules.{rules}
 use borrow.Author.Tests.{ltb-true}
 use Rattle.words.proofs.Below.{and_both as both}
-use Rattle.blocks.specs.mirror.Heads.{Far, Noted}
 use Rattle.blocks.proofs.Far.{far_leads, far_on, noted_put}
 use Rattle.blocks.proofs.heads.note.Goals as goal
 

@@ -1,12 +1,10 @@
 -- `heads::steps` meets its contract. The invariant: the steps taken lead here, and whoever left the block shows that it is not good. Assumes nothing.
 use Rattle.blocks.proofs.heads.steps.Goals.{in-3, in-4}
-use Prim.Native.Nat.{◌-◌, ◌<◌, ◌≤◌}
-use mathlib.Core.Logic.{inr, ⊎_elim}
+use Prim.Native.Nat.{◌<◌}
+use mathlib.Core.Logic.{inr}
 use mathlib.Core.Path.{sym, ◌∙◌}
 use native.Mathlib.Omega.{arith}
-use borrow.Author.Rules.{rules}
-use Rattle.blocks.specs.mirror.Heads.{Bad}
-use Rattle.blocks.proofs.Far.{Came, came_here, came_on, came_far, came_head, came_none, loop_leads, back_leads, stays, far_enough, loop_out, back_out, searches, searched}
+use Rattle.blocks.proofs.Far.{came_here, came_on, came_far, came_head, came_none, loop_leads, back_leads, stays, far_enough, loop_out, back_out, searches, searched}
 use Rattle.blocks.proofs.heads.steps.Goals as goal
 
 pub loop-at-init : goal.loop-at-init

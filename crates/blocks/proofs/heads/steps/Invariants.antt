@@ -1,11 +1,7 @@
 -- `heads::steps` meets its contract. The invariant: the steps taken lead here, and whoever left the block shows that it is not good. Assumes nothing.
-use Prim.Native.Nat.{◌-◌, ◌<◌, ◌≤◌}
-use mathlib.Core.Logic.{inr, ⊎_elim}
-use mathlib.Core.Path.{sym, ◌∙◌}
-use native.Mathlib.Omega.{arith}
-use borrow.Author.Rules.{rules}
+use Prim.Native.Nat.{◌-◌, ◌≤◌}
 use Rattle.blocks.specs.mirror.Heads.{Bad}
-use Rattle.blocks.proofs.Far.{Came, came_here, came_on, came_far, came_head, came_none, loop_leads, back_leads, stays, far_enough, loop_out, back_out, searches, searched}
+use Rattle.blocks.proofs.Far.{Came}
 use Rattle.blocks.proofs.heads.steps.Given as goal
 
 abbrev pub invariant-loop-at : goal.invariant-loop-at

@@ -1,9 +1,8 @@
 -- `rows::find_arm` meets its contract. The loop's invariant: what the rest of the chain holds of the label, with the lowest label so far, is what the
 -- whole holds. Assumes nothing.
 use Prim.Native.Nat.{◌-◌, suc}
-use mathlib.Core.Path.{ap, ◌≡◌, refl, sym, ◌∙◌}
+use mathlib.Core.Path.{ap, ◌≡◌, sym, ◌∙◌}
 use Rattle.blocks.proofs.Walk.{chain_none, chain_no_more, lookup_end, lookup_here, lookup_on, lookup_is}
-use borrow.Author.Rules.{rules}
 use native.Mathlib.Omega.{arith}
 use Rattle.table.specs.Limits.{base}
 use Rattle.blocks.specs.mirror.Rows.{chain_at, lookup}

@@ -1,10 +1,6 @@
 -- `rows::find_arm` meets its contract. The loop's invariant: what the rest of the chain holds of the label, with the lowest label so far, is what the
 -- whole holds. Assumes nothing.
-use Prim.Native.Nat.{◌-◌, suc}
-use mathlib.Core.Path.{ap, ◌≡◌, refl, sym, ◌∙◌}
-use Rattle.blocks.proofs.Walk.{chain_none, chain_no_more, lookup_end, lookup_here, lookup_on, lookup_is}
-use borrow.Author.Rules.{rules}
-use native.Mathlib.Omega.{arith}
+use mathlib.Core.Path.{◌≡◌}
 use Rattle.table.specs.Limits.{base}
 use Rattle.blocks.specs.mirror.Rows.{chain_at, lookup}
 use Rattle.blocks.proofs.rows.find_arm.Given as goal

@@ -1,11 +1,8 @@
 -- `rows::head` meets its contract. The loop's invariant: what is left to follow from here is what was to follow. Assumes nothing.
 use Rattle.blocks.proofs.rows.head.Goals.{in-3, in-4}
 use Prim.Native.Nat.{◌-◌, suc}
-use borrow.Author.Rules.{rules}
-use mathlib.Core.Path.{◌≡◌, refl, sym, ◌∙◌}
-use mathlib.Core.Logic.{⊎_elim}
+use mathlib.Core.Path.{◌≡◌, sym, ◌∙◌}
 use native.Mathlib.Omega.{arith}
-use Rattle.blocks.specs.mirror.Rows.{follow_at}
 use Rattle.blocks.proofs.Walk.{follow_loop, follow_back, follow_stays, follow_no_more}
 use Rattle.blocks.proofs.rows.head.Goals as goal
 

@@ -1,11 +1,6 @@
 -- `rows::head` meets its contract. The loop's invariant: what is left to follow from here is what was to follow. Assumes nothing.
-use Prim.Native.Nat.{◌-◌, suc}
-use borrow.Author.Rules.{rules}
-use mathlib.Core.Path.{◌≡◌, refl, sym, ◌∙◌}
-use mathlib.Core.Logic.{⊎_elim}
-use native.Mathlib.Omega.{arith}
+use mathlib.Core.Path.{◌≡◌}
 use Rattle.blocks.specs.mirror.Rows.{follow_at}
-use Rattle.blocks.proofs.Walk.{follow_loop, follow_back, follow_stays, follow_no_more}
 use Rattle.blocks.proofs.rows.head.Given as goal
 
 abbrev pub invariant-loop-left : goal.invariant-loop-left

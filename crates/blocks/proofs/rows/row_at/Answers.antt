@@ -4,7 +4,6 @@ use mathlib.Core.Path.{◌∙◌}
 use native.Mathlib.Nat.{add-zero}
 use native.Mathlib.Omega.{arith}
 use Rattle.blocks.proofs.Walk.{words_past}
-use borrow.Author.Rules.{rules}
 use Rattle.blocks.proofs.rows.row_at.Goals as goal
 
 pub returns-then-rows-start : goal.returns-then-rows-start

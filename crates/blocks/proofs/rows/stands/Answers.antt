@@ -1,7 +1,6 @@
 -- `rows::stands` meets its contract. Assumes nothing.
 use borrow.Author.Tests.{ne_eqb}
 use Rattle.blocks.proofs.RowTests.{is_head_lem}
-use borrow.Author.Rules.{rules}
 use Rattle.blocks.proofs.rows.stands.Goals as goal
 
 pub returns-in_default : goal.returns-in_default

@@ -1,12 +1,8 @@
 -- `tables::block_good` meets its contract. The loop's invariant: every row before this one is good. Assumes nothing.
 use Prim.Native.Nat.{ℕ, ◌-◌, ◌<◌, ◌≤◌}
 use mathlib.Core.Bool.{true}
-use mathlib.Core.Path.{◌≡◌, refl, sym, ◌∙◌}
-use native.Mathlib.Omega.{arith}
+use mathlib.Core.Path.{◌≡◌}
 use lib.ListN.{length}
-use borrow.Author.Count.{below_none, below_more}
-use borrow.Author.Tests.{not-true, not-false}
-use Rattle.words.proofs.Below.{every_all}
 use Rattle.table.specs.Limits.{base}
 use Rattle.blocks.specs.mirror.Tables.{row_good_at}
 use Rattle.blocks.specs.mirror.Heads.{Noted}

@@ -3,7 +3,6 @@ use Prim.Native.Nat.{◌/◌}
 use lib.ListN.{length}
 use native.Mathlib.Nat.{mul-div-le}
 use native.Mathlib.Omega.{arith}
-use Rattle.blocks.proofs.Good.{roles_in_lem}
 use Rattle.blocks.proofs.tables.block_rows.Goals as goal
 
 pub returns-then-roles : goal.returns-then-roles

@@ -1,20 +1,15 @@
 -- `tables::blocks_good` meets its contract. The loop's invariant: every block before this one is good, and what is noted is right. Assumes nothing.
 use mathlib.Core.Bool.{not}
 use mathlib.Core.Path.{ap}
-use Prim.Native.Nat.{ℕ, ◌-◌, ◌<◌, ◌≤◌, ◌*◌}
-use mathlib.Core.Bool.{true}
-use mathlib.Core.Path.{◌≡◌, sym, ◌∙◌}
-use native.Mathlib.Nat.{add-mul, zero-mul}
+use Prim.Native.Nat.{ℕ}
+use mathlib.Core.Path.{sym}
+use native.Mathlib.Nat.{zero-mul}
 use native.Mathlib.Omega.{arith}
-use lib.ListN.{length, length-replicate}
-use borrow.Author.Count.{below_none, below_more}
-use Rattle.words.specs.Below.{every}
+use lib.ListN.{length-replicate}
+use borrow.Author.Count.{below_none}
 use Rattle.words.proofs.Below.{every_all, every_fails}
-use Rattle.table.specs.Limits.{base}
-use Rattle.blocks.specs.mirror.Tables.{row_good_at}
-use Rattle.blocks.specs.mirror.Heads.{Noted}
-use Rattle.blocks.proofs.Far.{noted_none, noted_next}
-use Rattle.blocks.proofs.Good.{block_not, block_good}
+use Rattle.blocks.proofs.Far.{noted_none}
+use Rattle.blocks.proofs.Good.{block_not}
 use Rattle.blocks.proofs.tables.blocks_good.Goals as goal
 
 pub loop-role-init : goal.loop-role-init

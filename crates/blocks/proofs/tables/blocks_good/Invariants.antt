@@ -1,18 +1,12 @@
 -- `tables::blocks_good` meets its contract. The loop's invariant: every block before this one is good, and what is noted is right. Assumes nothing.
 use Prim.Native.Nat.{ℕ, ◌-◌, ◌<◌, ◌≤◌, ◌*◌}
 use mathlib.Core.Bool.{true}
-use mathlib.Core.Path.{◌≡◌, sym, ◌∙◌}
-use native.Mathlib.Nat.{add-mul, zero-mul}
-use native.Mathlib.Omega.{arith}
-use lib.ListN.{length, length-replicate}
-use borrow.Author.Count.{below_none, below_more}
+use mathlib.Core.Path.{◌≡◌}
+use lib.ListN.{length}
 use Rattle.words.specs.Below.{every}
-use Rattle.words.proofs.Below.{every_all, every_fails}
 use Rattle.table.specs.Limits.{base}
 use Rattle.blocks.specs.mirror.Tables.{row_good_at}
 use Rattle.blocks.specs.mirror.Heads.{Noted}
-use Rattle.blocks.proofs.Far.{noted_none, noted_next}
-use Rattle.blocks.proofs.Good.{block_not, block_good}
 use Rattle.blocks.proofs.tables.blocks_good.Given as goal
 
 abbrev pub invariant-loop-role : goal.invariant-loop-role

@@ -1,5 +1,4 @@
 -- `tables::is_peer` meets its contract. Assumes nothing.
-use borrow.Author.Rules.{rules}
 use Rattle.blocks.proofs.tables.is_peer.Goals as goal
 
 pub returns : goal.returns

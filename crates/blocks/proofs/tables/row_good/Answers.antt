@@ -6,7 +6,6 @@ use mathlib.Core.Path.{sym}
 use Rattle.words.proofs.Below.{every_fails}
 use Rattle.blocks.proofs.Far.{leads_on_lem, leads_out, head_led, head_lost}
 use Rattle.blocks.proofs.Good.{good_not, good_headed, good_alone, no_arm}
-use borrow.Author.Rules.{rules}
 use Rattle.blocks.proofs.tables.row_good.Goals as goal
 
 pub has_head-requires : goal.has_head-requires

@@ -1,7 +1,6 @@
 -- `tables::row_holds` meets its contract: one line for each kind. Assumes nothing.
 use Rattle.blocks.specs.mirror.Tables.{row_holds_at}
 use Rattle.blocks.proofs.RowTests.{other_kind}
-use borrow.Author.Rules.{rules}
 use Rattle.blocks.proofs.tables.row_holds.Goals as goal
 
 pub returns-in-0 : goal.returns-in-0

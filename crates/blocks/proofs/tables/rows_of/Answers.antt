@@ -1,7 +1,6 @@
 -- `tables::rows_of` meets its contract. Assumes nothing.
 use mathlib.Core.Path.{sym, ◌∙◌}
 use Rattle.blocks.proofs.Good.{sized_none, sized_some, sized_bounds, rows_good}
-use borrow.Author.Rules.{rules}
 use Rattle.blocks.proofs.tables.rows_of.Goals as goal
 
 pub returns-then-rows-eq0 : goal.returns-then-rows-eq0

@@ -1,6 +1,5 @@
 -- `tables::to_arm` meets its contract. Assumes nothing.
 use Rattle.blocks.proofs.RowTests.{arm_read}
-use borrow.Author.Rules.{rules}
 use Rattle.blocks.proofs.tables.to_arm.Goals as goal
 
 pub returns : goal.returns

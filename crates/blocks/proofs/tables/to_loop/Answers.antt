@@ -1,6 +1,5 @@
 -- `tables::to_loop` meets its contract. Assumes nothing.
 use Rattle.blocks.proofs.RowTests.{loop_read}
-use borrow.Author.Rules.{rules}
 use Rattle.blocks.proofs.tables.to_loop.Goals as goal
 
 pub returns : goal.returns

@@ -1,6 +1,5 @@
 -- `tables::to_next` meets its contract. Assumes nothing.
 use Rattle.blocks.proofs.RowTests.{next_read}
-use borrow.Author.Rules.{rules}
 use Rattle.blocks.proofs.tables.to_next.Goals as goal
 
 pub returns : goal.returns

@@ -1,6 +1,5 @@
 -- `tables::to_other` meets its contract. Assumes nothing.
 use Rattle.blocks.proofs.RowTests.{other_read}
-use borrow.Author.Rules.{rules}
 use Rattle.blocks.proofs.tables.to_other.Goals as goal
 
 pub returns : goal.returns

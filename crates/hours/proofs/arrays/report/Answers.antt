@@ -1,13 +1,11 @@
 -- `arrays::report` meets its contract. The loop's invariant: the tally is that of the records before this one. Assumes nothing.
-use Prim.Native.Nat.{◌-◌, ◌≤◌}
 use mathlib.Core.Path.{◌≡◌, ap, ◌∙◌}
 use mathlib.Core.Bool.{not}
-use borrow.Author.Rules.{rules}
 use native.Mathlib.Numerals.{add-one}
 use native.Mathlib.Omega.{arith}
 use Rattle.table.specs.Limits.{base}
-use Rattle.hours.specs.mirror.Tally.{Sane, finish_of}
-use Rattle.hours.proofs.Recorded.{recorded, uneven_is, Even, evenly, few, none_recorded, next_recorded, all_recorded}
+use Rattle.hours.specs.mirror.Tally.{finish_of}
+use Rattle.hours.proofs.Recorded.{recorded, uneven_is, evenly, few, none_recorded, next_recorded, all_recorded}
 use Rattle.hours.proofs.arrays.report.Goals as goal
 
 pub finish-requires : goal.finish-requires

@@ -1,12 +1,9 @@
 -- `arrays::report` meets its contract. The loop's invariant: the tally is that of the records before this one. Assumes nothing.
 use Prim.Native.Nat.{◌-◌, ◌≤◌}
-use mathlib.Core.Path.{◌≡◌, ap, ◌∙◌}
-use borrow.Author.Rules.{rules}
-use native.Mathlib.Numerals.{add-one}
-use native.Mathlib.Omega.{arith}
+use mathlib.Core.Path.{◌≡◌}
 use Rattle.table.specs.Limits.{base}
-use Rattle.hours.specs.mirror.Tally.{Sane, finish_of}
-use Rattle.hours.proofs.Recorded.{recorded, uneven_is, Even, evenly, few, none_recorded, next_recorded, all_recorded}
+use Rattle.hours.specs.mirror.Tally.{Sane}
+use Rattle.hours.proofs.Recorded.{recorded, Even}
 use Rattle.hours.proofs.arrays.report.Given as goal
 
 abbrev pub invariant-loop-i : goal.invariant-loop-i

@@ -1,15 +1,11 @@
 -- `tally::alone` meets its contract. The loop's invariant: the roles below this one have their figures, the others 0. Assumes nothing.
 use Prim.Native.Nat.{ℕ, ◌+◌, ◌-◌, ◌≤◌}
 use mathlib.Core.List.{List, ◌++◌}
-use mathlib.Core.Path.{◌≡◌, refl, ◌∙◌}
+use mathlib.Core.Path.{◌≡◌}
 use lib.ListN.{get_or, replicate}
-use borrow.Author.Rules.{rules}
-use native.Mathlib.Numerals.{add-one}
-use native.Mathlib.Omega.{arith}
 use Rattle.table.specs.Limits.{base}
 use Rattle.hours.specs.Report.{each}
 use Rattle.hours.specs.mirror.Tally.{ALONE}
-use Rattle.hours.proofs.Each.{fill_next, fill_all}
 use Rattle.hours.proofs.tally.alone.Given as goal
 
 abbrev pub of_role : List ℕ → ℕ → ℕ

@@ -1,5 +1,4 @@
 -- `tally::finish` meets its contract. Assumes nothing.
-use borrow.Author.Rules.{rules}
 use borrow.Author.Tests.{eq-eqb, ne_eqb}
 use Rattle.hours.proofs.Steps.{first_le, asleep_le}
 use Rattle.hours.proofs.tally.finish.Goals as goal

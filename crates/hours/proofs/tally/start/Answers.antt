@@ -2,7 +2,6 @@
 use mathlib.Core.Path.{refl}
 use native.Mathlib.Omega.{arith}
 use Rattle.words.specs.Below.{sum}
-use borrow.Author.Rules.{rules}
 use Rattle.hours.proofs.tally.start.Goals as goal
 
 pub returns : goal.returns

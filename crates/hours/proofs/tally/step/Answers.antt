@@ -3,7 +3,6 @@ use native.Mathlib.Omega.{arith}
 use borrow.Author.Tests.{eq-eqb, ne_eqb, lt-ltb, le-ltb}
 use Rattle.hours.specs.mirror.Tally.{step_of}
 use Rattle.hours.proofs.Steps.{fits_more, sane_more}
-use borrow.Author.Rules.{rules}
 use Rattle.hours.proofs.tally.step.Goals as goal
 
 pub returns-then-t-eq-MINUTE : goal.returns-then-t-eq-MINUTE

@@ -1,11 +1,8 @@
 -- `lines::fit::all_below` meets its contract: whether all are below the bound is settled by those that are not passed yet. Assumes nothing.
 use Prim.Native.Nat.{◌≤◌, ◌-◌}
-use mathlib.Core.Path.{◌≡◌, refl, ◌∙◌}
-use native.Mathlib.Omega.{arith}
+use mathlib.Core.Path.{◌≡◌}
 use lib.ListN.{length, drop}
-use borrow.Author.Rules.{rules}
 use Rattle.lines.specs.Over.{all_below}
-use Rattle.lines.proofs.Below.{passed, refused, all_passed}
 use Rattle.lines.proofs.fit.all_below.Given as goal
 
 abbrev pub invariant-loop-i : goal.invariant-loop-i

@@ -1,14 +1,9 @@
 -- `lines::fit::bytes` meets its contract: the numbers that are left, stored from the place reached on, are all of them stored from the
 -- start. Assumes nothing.
 use Prim.Native.Nat.{◌≤◌, ◌-◌}
-use mathlib.Core.Path.{◌≡◌, refl, sym, ◌∙◌}
-use native.Mathlib.Omega.{arith}
-use lib.ListN.{length, drop, length-set}
+use mathlib.Core.Path.{◌≡◌}
+use lib.ListN.{length, drop}
 use lib.Seq.{sets}
-use borrow.Author.Rules.{rules}
-use borrow.Author.Tests.{not-true, not-false}
-use Rattle.lines.proofs.Below.{each_below, no_room, too_wide, all_fit}
-use Rattle.lines.proofs.Stores.{stored, finished}
 use Rattle.lines.proofs.fit.bytes.Given as goal
 
 abbrev pub invariant-loop-i : goal.invariant-loop-i

@@ -1,11 +1,8 @@
 -- `lines::fit::copy` meets its contract: the numbers that are left, stored from the place reached on, are all of them stored from the
 -- start. Assumes nothing.
-use Prim.Native.Nat.{◌≤◌, ◌-◌}
-use mathlib.Core.Path.{◌≡◌, refl, ◌∙◌}
+use mathlib.Core.Path.{refl, ◌∙◌}
 use native.Mathlib.Omega.{arith}
-use lib.ListN.{length, drop, length-set}
-use lib.Seq.{sets}
-use borrow.Author.Rules.{rules}
+use lib.ListN.{length-set}
 use Rattle.lines.proofs.Stores.{stored, finished}
 use Rattle.lines.proofs.fit.copy.Goals as goal
 

@@ -1,7 +1,6 @@
 -- `lines::fit::cut_bytes` meets its contract: the lesser of two numbers counts bytes of the slice. Assumes nothing.
 use native.Mathlib.Omega.{arith}
 use lib.ListN.{length-take}
-use borrow.Author.Rules.{rules}
 use Rattle.lines.proofs.fit.cut_bytes.Goals as goal
 
 pub returns : goal.returns

@@ -1,7 +1,6 @@
 -- `lines::fit::cut_numbers` meets its contract: the lesser of two numbers counts elements of the slice. Assumes nothing.
 use native.Mathlib.Omega.{arith}
 use lib.ListN.{length-take}
-use borrow.Author.Rules.{rules}
 use Rattle.lines.proofs.fit.cut_numbers.Goals as goal
 
 pub returns : goal.returns

@@ -1,11 +1,9 @@
 -- `lines::fit::wide` meets its contract: the words that are left, stored from the place reached on, are all of them stored from `at` on. Assumes nothing.
-use Prim.Native.Nat.{◌≤◌, ◌+◌, ◌-◌}
-use mathlib.Core.Path.{◌≡◌, refl, ◌∙◌}
+use Prim.Native.Nat.{◌+◌}
+use mathlib.Core.Path.{refl, ◌∙◌}
 use native.Mathlib.Nat.{add_assoc, add-zero}
 use native.Mathlib.Omega.{arith}
-use lib.ListN.{length, drop, length-set}
-use lib.Seq.{sets}
-use borrow.Author.Rules.{rules}
+use lib.ListN.{length-set}
 use Rattle.lines.specs.Over.{behind}
 use Rattle.lines.proofs.Stores.{stored, finished, past_end}
 use Rattle.lines.proofs.fit.wide.Goals as goal

@@ -1,13 +1,8 @@
 -- `lines::fit::wide` meets its contract: the words that are left, stored from the place reached on, are all of them stored from `at` on. Assumes nothing.
 use Prim.Native.Nat.{◌≤◌, ◌+◌, ◌-◌}
-use mathlib.Core.Path.{◌≡◌, refl, ◌∙◌}
-use native.Mathlib.Nat.{add_assoc, add-zero}
-use native.Mathlib.Omega.{arith}
-use lib.ListN.{length, drop, length-set}
+use mathlib.Core.Path.{◌≡◌}
+use lib.ListN.{length, drop}
 use lib.Seq.{sets}
-use borrow.Author.Rules.{rules}
-use Rattle.lines.specs.Over.{behind}
-use Rattle.lines.proofs.Stores.{stored, finished, past_end}
 use Rattle.lines.proofs.fit.wide.Given as goal
 
 abbrev pub invariant-loop-i : goal.invariant-loop-i

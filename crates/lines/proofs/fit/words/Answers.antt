@@ -1,12 +1,8 @@
 -- `lines::fit::words` meets its contract: the numbers that are left, stored from the place reached on, are all of them stored from the
 -- start. Assumes nothing.
-use Prim.Native.Nat.{◌≤◌, ◌-◌}
-use mathlib.Core.Path.{◌≡◌, refl, sym, ◌∙◌}
+use mathlib.Core.Path.{refl, sym, ◌∙◌}
 use native.Mathlib.Omega.{arith}
-use lib.ListN.{length, drop, length-set}
-use lib.Seq.{sets}
-use borrow.Author.Rules.{rules}
-use borrow.Author.Tests.{not-true, not-false}
+use lib.ListN.{length-set}
 use Rattle.lines.proofs.Below.{each_below, no_room, too_wide, all_fit}
 use Rattle.lines.proofs.Stores.{stored, finished}
 use Rattle.lines.proofs.fit.words.Goals as goal

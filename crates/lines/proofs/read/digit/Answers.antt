@@ -1,6 +1,5 @@
 -- `lines::read::digit` meets its contract. Assumes nothing.
 use native.Mathlib.Omega.{arith}
-use borrow.Author.Rules.{rules}
 use Rattle.lines.proofs.Placing.{below_digits, above_digits, too_large, one_digit}
 use Rattle.lines.proofs.read.digit.Goals as goal
 

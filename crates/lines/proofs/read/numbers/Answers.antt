@@ -1,10 +1,7 @@
 -- `lines::read::numbers` meets its contract: what is left to read comes to the same as all behind the letter. Assumes nothing.
-use Prim.Native.Nat.{◌≤◌, ◌-◌}
-use mathlib.Core.Path.{◌≡◌, refl, sym, ◌∙◌}
+use mathlib.Core.Path.{refl, sym, ◌∙◌}
 use native.Mathlib.Omega.{arith}
-use lib.ListN.{length}
-use borrow.Author.Rules.{rules}
-use Rattle.lines.proofs.Counting.{Left, begun, read_on, line_read, no_letter, too_long, well_formed_lem, malformed}
+use Rattle.lines.proofs.Counting.{begun, read_on, line_read, no_letter, too_long, well_formed_lem, malformed}
 use Rattle.lines.proofs.read.numbers.Goals as goal
 
 pub returns-then-line-eq0 : goal.returns-then-line-eq0

@@ -1,10 +1,8 @@
 -- `lines::read::numbers` meets its contract: what is left to read comes to the same as all behind the letter. Assumes nothing.
 use Prim.Native.Nat.{◌≤◌, ◌-◌}
-use mathlib.Core.Path.{◌≡◌, refl, sym, ◌∙◌}
-use native.Mathlib.Omega.{arith}
+use mathlib.Core.Path.{◌≡◌}
 use lib.ListN.{length}
-use borrow.Author.Rules.{rules}
-use Rattle.lines.proofs.Counting.{Left, begun, read_on, line_read, no_letter, too_long, well_formed_lem, malformed}
+use Rattle.lines.proofs.Counting.{Left}
 use Rattle.lines.proofs.read.numbers.Given as goal
 
 abbrev pub invariant-loop-i : goal.invariant-loop-i

@@ -1,7 +1,6 @@
 -- `lines::read::store` meets its contract. Assumes nothing.
 use mathlib.Core.List.{[], ◌∷◌}
 use native.Mathlib.Omega.{arith}
-use borrow.Author.Rules.{rules}
 use Rattle.lines.specs.Over.{behind}
 use Rattle.lines.specs.mirror.Places.{ended_of}
 use Rattle.lines.proofs.Placing.{no_end, ends}

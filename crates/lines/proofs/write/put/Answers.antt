@@ -1,7 +1,6 @@
 -- `lines::write::put` meets its contract. Assumes nothing.
 use mathlib.Core.List.{[], ◌∷◌}
 use native.Mathlib.Omega.{arith}
-use borrow.Author.Rules.{rules}
 use Rattle.lines.specs.Over.{behind}
 use Rattle.lines.proofs.Stores.{stores, past_end}
 use Rattle.lines.proofs.write.put.Goals as goal

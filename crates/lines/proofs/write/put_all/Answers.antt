@@ -1,10 +1,8 @@
 -- `lines::write::put_all` meets its contract: what is left to write comes to the same as all from the start. Assumes nothing.
-use Prim.Native.Nat.{◌≤◌, ◌-◌}
-use mathlib.Core.Path.{◌≡◌, refl}
+use mathlib.Core.Path.{refl}
 use native.Mathlib.Omega.{arith}
-use lib.ListN.{length, drop, drop_of_length-le}
-use borrow.Author.Rules.{rules}
-use Rattle.lines.proofs.Stores.{Same, start, then, one_written, all_written}
+use lib.ListN.{drop_of_length-le}
+use Rattle.lines.proofs.Stores.{start, then, one_written, all_written}
 use Rattle.lines.proofs.write.put_all.Goals as goal
 
 pub loop-i-init : goal.loop-i-init

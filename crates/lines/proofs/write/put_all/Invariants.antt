@@ -1,10 +1,8 @@
 -- `lines::write::put_all` meets its contract: what is left to write comes to the same as all from the start. Assumes nothing.
 use Prim.Native.Nat.{◌≤◌, ◌-◌}
-use mathlib.Core.Path.{◌≡◌, refl}
-use native.Mathlib.Omega.{arith}
-use lib.ListN.{length, drop, drop_of_length-le}
-use borrow.Author.Rules.{rules}
-use Rattle.lines.proofs.Stores.{Same, start, then, one_written, all_written}
+use mathlib.Core.Path.{◌≡◌}
+use lib.ListN.{length, drop}
+use Rattle.lines.proofs.Stores.{Same}
 use Rattle.lines.proofs.write.put_all.Given as goal
 
 abbrev pub invariant-loop-i : goal.invariant-loop-i

@@ -1,12 +1,9 @@
 -- `lines::write::text` meets its contract: the text that is left to write comes to the same as all of it from the start. Assumes nothing.
 use Prim.Native.Nat.{◌≤◌, ◌-◌}
-use mathlib.Core.Path.{◌≡◌, refl}
-use native.Mathlib.Omega.{arith}
+use mathlib.Core.Path.{◌≡◌}
 use lib.ListN.{length, drop}
-use borrow.Author.Rules.{rules}
 use Rattle.lines.specs.Text.{text_of}
-use Rattle.lines.proofs.Stores.{Same, start, then}
-use Rattle.lines.proofs.Texts.{number_written, text_written}
+use Rattle.lines.proofs.Stores.{Same}
 use Rattle.lines.proofs.write.text.Given as goal
 
 abbrev pub invariant-loop-i : goal.invariant-loop-i

@@ -1,6 +1,5 @@
 -- `logs::shown::ask` meets its contract. Assumes nothing.
 use mathlib.Core.Path.{refl}
-use borrow.Author.Rules.{rules}
 use Rattle.logs.proofs.Telling.{asked}
 use Rattle.logs.proofs.shown.ask.Goals as goal
 

@@ -2,7 +2,6 @@
 use mathlib.Core.Path.{◌∙◌}
 use mathlib.Core.List.{[], ◌∷◌, ◌++◌}
 use native.Mathlib.Omega.{arith}
-use borrow.Author.Rules.{rules}
 use Rattle.logs.proofs.Telling.{at_back}
 use Rattle.logs.proofs.shown.figure.Goals as goal
 

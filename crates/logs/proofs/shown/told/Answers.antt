@@ -1,14 +1,12 @@
 -- `logs::shown::told` meets its contract. The loop's invariant: the numbers before this place are told. Assumes nothing.
-use Prim.Native.Nat.{ℕ, ◌+◌, ◌-◌, ◌≤◌}
-use mathlib.Core.List.{◌++◌}
+use Prim.Native.Nat.{◌+◌}
 use mathlib.Core.Path.{◌≡◌, refl, ◌∙◌}
 use native.Mathlib.Numerals.{add-one}
 use native.Mathlib.Omega.{arith}
 use borrow.Author.Rules.{rules}
-use lib.ListN.{length, get_or, replicate}
+use lib.ListN.{length}
 use Rattle.table.specs.Limits.{base}
 use Rattle.hours.specs.Report.{each}
-use Rattle.hours.specs.declared.Figures.{Figures}
 use Rattle.hours.proofs.Each.{fill_next, fill_all}
 use Rattle.logs.specs.Lines.{told_of}
 use Rattle.logs.proofs.Telling.{told_length, each_all}

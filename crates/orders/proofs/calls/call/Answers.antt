@@ -1,8 +1,6 @@
 -- `orders::calls::call` meets its contract. Assumes nothing.
 use mathlib.Core.Path.{sym, ◌∙◌}
-use borrow.Author.Tests.{not-true, not-false}
 use Rattle.orders.proofs.Replies.{told_nothing, told_as, no_call, call_state, call_fresh, call_hand, call_send, call_receive}
-use borrow.Author.Rules.{rules}
 use Rattle.orders.proofs.calls.call.Goals as goal
 
 pub returns-then-not-is_call : goal.returns-then-not-is_call

@@ -1,7 +1,6 @@
 -- `orders::calls::fresh` meets its contract. Assumes nothing.
 use native.Mathlib.Omega.{arith}
 use Rattle.orders.proofs.Replies.{told, fresh_reply}
-use borrow.Author.Rules.{rules}
 use Rattle.orders.proofs.calls.fresh.Goals as goal
 
 pub returns : goal.returns

@@ -1,7 +1,6 @@
 -- `orders::calls::hand` meets its contract. Assumes nothing.
 use native.Mathlib.Omega.{arith}
 use Rattle.orders.proofs.Replies.{told, hand_reply}
-use borrow.Author.Rules.{rules}
 use Rattle.orders.proofs.calls.hand.Goals as goal
 
 pub returns : goal.returns

@@ -3,7 +3,6 @@ use mathlib.Core.Path.{◌∙◌}
 use native.Mathlib.Omega.{arith}
 use lib.ListN.{replicate}
 use Rattle.orders.proofs.Lists.{over_rest}
-use borrow.Author.Rules.{rules}
 use Rattle.orders.proofs.calls.heads_told.Goals as goal
 
 pub returns : goal.returns

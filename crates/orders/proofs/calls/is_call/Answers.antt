@@ -1,7 +1,6 @@
 -- `orders::calls::is_call` meets its contract. Assumes nothing.
 use borrow.Author.Tests.{ne_eqb}
 use Rattle.orders.specs.Orders.{is_call}
-use borrow.Author.Rules.{rules}
 use Rattle.orders.proofs.calls.is_call.Goals as goal
 
 pub returns-in-102 : goal.returns-in-102

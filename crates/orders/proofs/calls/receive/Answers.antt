@@ -1,6 +1,5 @@
 -- `orders::calls::receive` meets its contract. Assumes nothing.
 use Rattle.orders.proofs.Replies.{received_as}
-use borrow.Author.Rules.{rules}
 use Rattle.orders.proofs.calls.receive.Goals as goal
 
 pub returns : goal.returns

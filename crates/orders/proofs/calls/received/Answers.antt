@@ -1,7 +1,6 @@
 -- `orders::calls::received` meets its contract. Assumes nothing.
 use native.Mathlib.Omega.{arith}
 use Rattle.orders.proofs.Replies.{told, received_reply}
-use borrow.Author.Rules.{rules}
 use Rattle.orders.proofs.calls.received.Goals as goal
 
 pub returns : goal.returns

@@ -1,6 +1,5 @@
 -- `orders::calls::send` meets its contract. Assumes nothing.
 use Rattle.orders.proofs.Replies.{sent_as}
-use borrow.Author.Rules.{rules}
 use Rattle.orders.proofs.calls.send.Goals as goal
 
 pub returns : goal.returns

@@ -1,7 +1,6 @@
 -- `orders::calls::sent` meets its contract. Assumes nothing.
 use native.Mathlib.Omega.{arith}
 use Rattle.orders.proofs.Replies.{told, sent_reply}
-use borrow.Author.Rules.{rules}
 use Rattle.orders.proofs.calls.sent.Goals as goal
 
 pub returns : goal.returns

@@ -1,6 +1,5 @@
 -- `orders::read::first` meets its contract. Assumes nothing.
 use Rattle.orders.proofs.Lists.{cut}
-use borrow.Author.Rules.{rules}
 use Rattle.orders.proofs.read.first.Goals as goal
 
 pub returns : goal.returns

@@ -5,7 +5,6 @@ use lib.ListN.{length}
 use borrow.Author.Tests.{ne_eqb}
 use Rattle.orders.specs.Orders.{is_state}
 use Rattle.orders.proofs.Lists.{is_state_lem}
-use borrow.Author.Rules.{rules}
 use Rattle.orders.proofs.read.is_state.Goals as goal
 
 pub returns-then-numbers-ne-STATE : goal.returns-then-numbers-ne-STATE

@@ -1,7 +1,6 @@
 -- `orders::read::number` meets its contract. Assumes nothing.
 use mathlib.Core.Path.{sym}
 use lib.ListN.{get_or-eq_default}
-use borrow.Author.Rules.{rules}
 use Rattle.orders.proofs.read.number.Goals as goal
 
 pub returns : goal.returns

@@ -1,6 +1,5 @@
 -- `orders::read::part` meets its contract. Assumes nothing.
 use Rattle.orders.proofs.Lists.{between}
-use borrow.Author.Rules.{rules}
 use Rattle.orders.proofs.read.part.Goals as goal
 
 pub returns : goal.returns

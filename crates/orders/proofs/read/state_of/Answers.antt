@@ -1,6 +1,5 @@
 -- `orders::read::state_of` meets its contract. Assumes nothing.
 use Rattle.orders.proofs.Lists.{state_read}
-use borrow.Author.Rules.{rules}
 use Rattle.orders.proofs.read.state_of.Goals as goal
 
 pub returns : goal.returns

@@ -1,6 +1,5 @@
 -- `orders::read::upto` meets its contract. Assumes nothing.
 use Rattle.orders.proofs.Lists.{cut}
-use borrow.Author.Rules.{rules}
 use Rattle.orders.proofs.read.upto.Goals as goal
 
 pub returns : goal.returns

@@ -1,7 +1,6 @@
 -- `orders::shown::ask` meets its contract. Assumes nothing.
 use mathlib.Core.Path.{refl}
 use Rattle.orders.proofs.Showing.{asked}
-use borrow.Author.Rules.{rules}
 use Rattle.orders.proofs.shown.ask.Goals as goal
 
 pub returns : goal.returns

@@ -1,7 +1,6 @@
 -- `orders::shown::put` meets its contract. Assumes nothing.
 use native.Mathlib.Omega.{arith}
 use Rattle.orders.proofs.Showing.{both_put}
-use borrow.Author.Rules.{rules}
 use Rattle.orders.proofs.shown.put.Goals as goal
 
 pub returns : goal.returns

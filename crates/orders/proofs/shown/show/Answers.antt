@@ -3,7 +3,6 @@ use mathlib.Core.Path.{◌∙◌}
 use native.Mathlib.Omega.{arith}
 use lib.ListN.{length-take}
 use Rattle.orders.proofs.Showing.{same_text}
-use borrow.Author.Rules.{rules}
 use Rattle.orders.proofs.shown.show.Goals as goal
 
 pub write_all-length-requires : goal.write_all-length-requires

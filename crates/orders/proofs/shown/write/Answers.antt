@@ -3,7 +3,6 @@ use mathlib.Core.Path.{sym, ◌∙◌, ap}
 use native.Mathlib.Omega.{arith}
 use lib.ListN.{length}
 use Rattle.orders.proofs.Showing.{worded_none, text_put}
-use borrow.Author.Rules.{rules}
 use Rattle.orders.proofs.shown.write.Goals as goal
 
 pub returns-then-numbers-eq0 : goal.returns-then-numbers-eq0

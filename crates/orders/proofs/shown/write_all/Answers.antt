@@ -5,7 +5,6 @@ use mathlib.Core.Path.{◌∙◌, ap}
 use native.Mathlib.Omega.{arith}
 use lib.ListN.{length, length-take}
 use Rattle.orders.specs.Lines.{worded}
-use borrow.Author.Rules.{rules}
 use Rattle.orders.proofs.shown.write_all.Goals as goal
 
 pub write-requires : goal.write-requires

@@ -2,10 +2,8 @@
 use mathlib.Core.Path.{sym, ◌∙◌}
 use Prim.Native.Nat.{ℕ, ◌≤◌}
 use lib.ListN.{length, length-replicate}
-use borrow.Author.Tests.{not-true, not-false}
 use Rattle.orders.proofs.Replies.{told_nothing}
 use Rattle.orders.proofs.Settings.{open_short, open_wide, open_told}
-use borrow.Author.Rules.{rules}
 use Rattle.orders.proofs.tables.open.Goals as goal
 
 pub returns-then-numbers-lt2 : goal.returns-then-numbers-lt2

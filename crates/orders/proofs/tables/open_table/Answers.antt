@@ -3,7 +3,6 @@ use mathlib.Core.Path.{sym, ◌∙◌, ap}
 use Rattle.table.specs.declared.Verdict.{Verdict}
 use Rattle.orders.proofs.Openings.{place_small, few}
 use Rattle.orders.proofs.Settings.{open_said}
-use borrow.Author.Rules.{rules}
 use Rattle.orders.proofs.tables.open_table.Goals as goal
 
 pub written-requires : goal.written-requires

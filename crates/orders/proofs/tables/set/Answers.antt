@@ -3,10 +3,8 @@ use native.Mathlib.Omega.{arith}
 use mathlib.Core.Path.{sym, ◌∙◌}
 use Prim.Native.Nat.{◌≤◌}
 use lib.ListN.{length}
-use borrow.Author.Tests.{not-true, not-false}
 use Rattle.orders.proofs.Replies.{told_nothing}
 use Rattle.orders.proofs.Settings.{set_short, set_wide, set_told}
-use borrow.Author.Rules.{rules}
 use Rattle.orders.proofs.tables.set.Goals as goal
 
 pub returns-then-numbers-eq0 : goal.returns-then-numbers-eq0

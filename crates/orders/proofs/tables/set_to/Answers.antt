@@ -1,5 +1,4 @@
 -- `orders::tables::set_to` meets its contract. Assumes nothing.
-use borrow.Author.Rules.{rules}
 use Rattle.orders.proofs.tables.set_to.Goals as goal
 
 pub returns : goal.returns

@@ -2,7 +2,6 @@
 use mathlib.Core.Path.{◌≡◌, sym, ◌∙◌}
 use Rattle.words.specs.Rows.{word}
 use Rattle.projection.proofs.Reached.{other_row}
-use borrow.Author.Rules.{rules}
 use Rattle.projection.proofs.reach.below.Goals as goal
 
 pub returns-in-1 : goal.returns-in-1

@@ -1,5 +1,4 @@
 -- `projection::reach::linked` meets its contract. Assumes nothing.
-use borrow.Author.Rules.{rules}
 use Rattle.projection.proofs.reach.linked.Goals as goal
 
 pub returns : goal.returns

@@ -3,7 +3,6 @@ use mathlib.Core.Path.{◌≡◌, sym, ◌∙◌}
 use native.Mathlib.Omega.{arith}
 use Rattle.words.specs.Rows.{word}
 use Rattle.projection.proofs.Reached.{next_some}
-use borrow.Author.Rules.{rules}
 use Rattle.projection.proofs.reach.next_arms.Goals as goal
 
 pub returns-then-word-eq0 : goal.returns-then-word-eq0

@@ -3,7 +3,6 @@ use mathlib.Core.Path.{sym}
 use native.Mathlib.Omega.{arith}
 use Rattle.table.specs.Limits.{base}
 use Rattle.projection.proofs.Sets.{set_shifted, set_past}
-use borrow.Author.Rules.{rules}
 use Rattle.projection.proofs.reach.only.Goals as goal
 
 pub returns-then-role-lt-ROLES : goal.returns-then-role-lt-ROLES

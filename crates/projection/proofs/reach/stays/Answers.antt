@@ -3,7 +3,6 @@ use mathlib.Core.Bool.{◌||◌}
 use Rattle.table.specs.Limits.{base}
 use Rattle.parts.specs.Absent.{takes_part, leaves}
 use Rattle.projection.proofs.Sets.{set_meets}
-use borrow.Author.Rules.{rules}
 use Rattle.projection.proofs.reach.stays.Goals as goal
 
 pub returns : goal.returns

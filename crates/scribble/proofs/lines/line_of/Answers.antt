@@ -1,10 +1,9 @@
 -- `scribble::lines::line_of` meets its contract: the newlines that are left come to the same. Assumes nothing.
-use Prim.Native.Nat.{suc, ◌+◌, ◌-◌, ◌≤◌}
-use mathlib.Core.Path.{◌≡◌, sym}
+use mathlib.Core.Path.{sym}
 use native.Mathlib.Omega.{arith}
-use lib.ListN.{length, take, drop, get_or}
+use lib.ListN.{length, take, get_or}
 use borrow.Author.Rules.{rules}
-use Rattle.scribble.specs.Tokens.{newlines, line_of}
+use Rattle.scribble.specs.Tokens.{line_of}
 use Rattle.scribble.proofs.Counting.{newline_more, newline_none, past_both, below_both, newline_one}
 use Rattle.scribble.proofs.lines.line_of.Goals as goal
 

@@ -1,11 +1,8 @@
 -- `scribble::lines::line_of` meets its contract: the newlines that are left come to the same. Assumes nothing.
 use Prim.Native.Nat.{suc, ◌+◌, ◌-◌, ◌≤◌}
-use mathlib.Core.Path.{◌≡◌, sym}
-use native.Mathlib.Omega.{arith}
-use lib.ListN.{length, take, drop, get_or}
-use borrow.Author.Rules.{rules}
-use Rattle.scribble.specs.Tokens.{newlines, line_of}
-use Rattle.scribble.proofs.Counting.{newline_more, newline_none, past_both, below_both, newline_one}
+use mathlib.Core.Path.{◌≡◌}
+use lib.ListN.{length, take, drop}
+use Rattle.scribble.specs.Tokens.{newlines}
 use Rattle.scribble.proofs.lines.line_of.Given as goal
 
 abbrev pub invariant-loop-i : goal.invariant-loop-i

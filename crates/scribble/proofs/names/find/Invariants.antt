@@ -1,12 +1,9 @@
 -- `scribble::names::find` meets its contract: among the names that are left it comes to the same. Assumes nothing.
 use Prim.Native.Nat.{◌+◌, ◌-◌, ◌≤◌}
-use mathlib.Core.Path.{◌≡◌, sym, ◌∙◌}
-use native.Mathlib.Omega.{arith}
+use mathlib.Core.Path.{◌≡◌}
 use lib.ListN.{length, take, drop}
-use borrow.Author.Rules.{rules}
 use Rattle.scribble.specs.Names.{index_of}
 use Rattle.scribble.specs.mirror.Starts.{name_from, names_from}
-use Rattle.scribble.proofs.Counting.{found_here, found_later, found_nowhere, past_both, below_both}
 use Rattle.scribble.proofs.names.find.Given as goal
 
 abbrev pub invariant-loop-i : goal.invariant-loop-i

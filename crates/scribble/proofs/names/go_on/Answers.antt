@@ -1,5 +1,4 @@
 -- `scribble::names::go_on` meets its contract. Assumes nothing.
-use borrow.Author.Rules.{rules}
 use Rattle.scribble.specs.mirror.Starts.{same_byte}
 use Rattle.scribble.proofs.names.go_on.Goals as goal
 

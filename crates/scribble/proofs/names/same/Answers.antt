@@ -1,11 +1,7 @@
 -- `scribble::names::same` meets its contract: what is left of both names is the same exactly where they are. Assumes nothing.
-use Prim.Native.Nat.{◌-◌}
-use mathlib.Core.Path.{◌≡◌, refl, sym, ◌∙◌}
+use mathlib.Core.Path.{sym, ◌∙◌}
 use native.Mathlib.Omega.{arith}
-use lib.ListN.{length}
 use borrow.Author.Rules.{rules}
-use Rattle.scribble.specs.Tokens.{spelled_alike}
-use Rattle.scribble.specs.mirror.Starts.{name_from}
 use Rattle.scribble.proofs.Naming.{first_inside, same_more, same_over}
 use Rattle.scribble.proofs.names.same.Goals as goal
 

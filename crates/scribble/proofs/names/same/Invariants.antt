@@ -1,12 +1,9 @@
 -- `scribble::names::same` meets its contract: what is left of both names is the same exactly where they are. Assumes nothing.
 use Prim.Native.Nat.{◌-◌}
-use mathlib.Core.Path.{◌≡◌, refl, sym, ◌∙◌}
-use native.Mathlib.Omega.{arith}
+use mathlib.Core.Path.{◌≡◌}
 use lib.ListN.{length}
-use borrow.Author.Rules.{rules}
 use Rattle.scribble.specs.Tokens.{spelled_alike}
 use Rattle.scribble.specs.mirror.Starts.{name_from}
-use Rattle.scribble.proofs.Naming.{first_inside, same_more, same_over}
 use Rattle.scribble.proofs.names.same.Given as goal
 
 abbrev pub invariant-loop-i : goal.invariant-loop-i

@@ -4,7 +4,6 @@ use mathlib.Core.Path.{◌≡◌, ap}
 use native.Mathlib.Omega.{arith}
 use lib.Dec.{ltb}
 use lib.ListN.{length}
-use borrow.Author.Rules.{rules}
 use Rattle.scribble.specs.mirror.Starts.{name_from}
 use Rattle.scribble.proofs.Counting.{name_length_lem}
 use Rattle.scribble.proofs.names.too_long.Goals as goal

@@ -1,7 +1,6 @@
 -- `scribble::scan::byte` meets its contract. Assumes nothing.
 use mathlib.Core.Path.{sym}
 use lib.ListN.{get_or-eq_default}
-use borrow.Author.Rules.{rules}
 use Rattle.scribble.proofs.scan.byte.Goals as goal
 
 pub returns-else-i-text : goal.returns-else-i-text

@@ -1,6 +1,5 @@
 -- `scribble::scan::goes_on` meets its contract. Assumes nothing.
 use mathlib.Core.Path.{sym}
-use borrow.Author.Rules.{rules}
 use Rattle.scribble.proofs.Scanning.{goes_past, goes_at}
 use Rattle.scribble.proofs.scan.goes_on.Goals as goal
 

@@ -1,5 +1,4 @@
 -- `scribble::scan::in_comment` meets its contract. Assumes nothing.
-use borrow.Author.Rules.{rules}
 use Rattle.scribble.specs.mirror.Scan.{in_comment}
 use Rattle.scribble.proofs.scan.in_comment.Goals as goal
 

@@ -1,11 +1,8 @@
 -- `scribble::scan::name_end` meets its contract: what is left of the name comes to the same. Assumes nothing.
 use Prim.Native.Nat.{◌+◌, ◌-◌}
-use mathlib.Core.Path.{◌≡◌, refl, sym, ◌∙◌}
-use native.Mathlib.Omega.{arith}
+use mathlib.Core.Path.{◌≡◌}
 use lib.ListN.{length, drop}
-use borrow.Author.Rules.{rules}
 use Rattle.scribble.specs.Tokens.{name_length}
-use Rattle.scribble.proofs.Scanning.{name_inside, name_more, name_over}
 use Rattle.scribble.proofs.scan.name_end.Given as goal
 
 abbrev pub invariant-loop-i : goal.invariant-loop-i

@@ -1,9 +1,6 @@
 -- `scribble::scan::skip` meets its contract: what is left of the gap comes to the same. Assumes nothing.
-use Prim.Native.Nat.{◌+◌, ◌-◌}
-use mathlib.Core.Bool.{false}
-use mathlib.Core.Path.{◌≡◌, refl, sym, ◌∙◌}
+use mathlib.Core.Path.{sym, ◌∙◌}
 use native.Mathlib.Omega.{arith}
-use lib.ListN.{length, drop}
 use borrow.Author.Rules.{rules}
 use Rattle.scribble.specs.mirror.Scan.{gap_left}
 use Rattle.scribble.proofs.Scanning.{goes_inside, gap_more, gap_over}

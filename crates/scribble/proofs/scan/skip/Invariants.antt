@@ -1,12 +1,9 @@
 -- `scribble::scan::skip` meets its contract: what is left of the gap comes to the same. Assumes nothing.
 use Prim.Native.Nat.{◌+◌, ◌-◌}
 use mathlib.Core.Bool.{false}
-use mathlib.Core.Path.{◌≡◌, refl, sym, ◌∙◌}
-use native.Mathlib.Omega.{arith}
+use mathlib.Core.Path.{◌≡◌}
 use lib.ListN.{length, drop}
-use borrow.Author.Rules.{rules}
 use Rattle.scribble.specs.mirror.Scan.{gap_left}
-use Rattle.scribble.proofs.Scanning.{goes_inside, gap_more, gap_over}
 use Rattle.scribble.proofs.scan.skip.Given as goal
 
 abbrev pub invariant-loop-comment : goal.invariant-loop-comment

@@ -1,7 +1,6 @@
 -- `scribble::token::keyword` meets its contract: the keywords are tried from the last to the first. Assumes nothing.
 use mathlib.Core.Path.{sym}
 use lib.ListN.{take}
-use borrow.Author.Rules.{rules}
 use Rattle.scribble.specs.Tokens.{a_name, reserved_words, spelled_alike}
 use Rattle.scribble.specs.mirror.Scan.{keyword_of}
 use Rattle.scribble.specs.mirror.Starts.{name_from}

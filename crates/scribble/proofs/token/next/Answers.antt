@@ -1,6 +1,5 @@
 -- `scribble::token::next` meets its contract. Assumes nothing.
 use mathlib.Core.Path.{sym, ◌∙◌}
-use borrow.Author.Rules.{rules}
 use Rattle.scribble.proofs.Nexting.{next_end, next_name, next_mark}
 use Rattle.scribble.proofs.token.next.Goals as goal
 

@@ -1,6 +1,5 @@
 -- `scribble::token::or_else` meets its contract. Assumes nothing.
 use mathlib.Core.Path.{sym, ◌∙◌}
-use borrow.Author.Rules.{rules}
 use Rattle.scribble.proofs.token.or_else.Goals as goal
 
 pub returns-then-same : goal.returns-then-same

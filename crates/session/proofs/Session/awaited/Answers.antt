@@ -1,6 +1,5 @@
 -- `Session::awaited` meets its promise. Assumes nothing.
 use Rattle.session.proofs.Answers.{awaited_read}
-use borrow.Author.Rules.{rules}
 use Rattle.session.proofs.Session.awaited.Goals as goal
 
 pub returns : goal.returns

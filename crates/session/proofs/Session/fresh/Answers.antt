@@ -1,8 +1,6 @@
 -- `Session::fresh` meets its promise. Assumes nothing.
-use mathlib.Core.Logic.{⊎_elim}
 use mathlib.Core.Path.{◌∙◌}
 use Rattle.session.proofs.Answers.{rows_low, fresh_refused, fresh_accepted}
-use borrow.Author.Rules.{rules}
 use Rattle.session.proofs.Session.fresh.Goals as goal
 use Rattle.session.proofs.Session.fresh.Goals.{then-rows-eq0, else-rows-eq0}
 

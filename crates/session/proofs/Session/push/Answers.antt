@@ -1,6 +1,5 @@
 -- `Session::push` meets its contract. Assumes nothing.
 use Rattle.session.proofs.Queues.{push_read}
-use borrow.Author.Rules.{rules}
 use Rattle.session.proofs.Session.push.Goals as goal
 
 pub returns : goal.returns

@@ -3,7 +3,6 @@ use mathlib.Core.Path.{sym, ◌∙◌, ap}
 use Rattle.state.proofs.Passed.{receive_to}
 use Rattle.session.specs.State.{listed}
 use Rattle.session.proofs.Calling.{after_receive, after_receive_lem}
-use borrow.Author.Rules.{rules}
 use Rattle.session.proofs.Session.receive.Goals as goal
 
 pub take-requires : goal.take-requires

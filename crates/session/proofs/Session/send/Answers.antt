@@ -3,7 +3,6 @@ use mathlib.Core.Path.{sym, ◌∙◌, ap}
 use Rattle.state.proofs.Passed.{send_to}
 use Rattle.session.specs.State.{listed}
 use Rattle.session.proofs.Calling.{after_send, after_send_lem}
-use borrow.Author.Rules.{rules}
 use Rattle.session.proofs.Session.send.Goals as goal
 
 pub push-requires : goal.push-requires

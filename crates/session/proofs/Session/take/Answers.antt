@@ -1,6 +1,4 @@
 -- `Session::take` meets its contract. Assumes nothing.
-use mathlib.Core.Path.{sym, ◌∙◌}
-use lib.ListN.{length-map}
 use Rattle.session.proofs.Queues.{taken_read}
 use borrow.Author.Rules.{rules}
 use Rattle.session.proofs.Session.take.Goals as goal

@@ -1,10 +1,7 @@
 -- `heads::first_heads` meets its contract. The loop's invariant: the roles below this one have their heads, the others 0. Assumes nothing.
-use Prim.Native.Nat.{◌-◌, ◌≤◌, ◌*◌, suc}
-use mathlib.Core.List.{◌++◌, append-nil}
-use mathlib.Core.Logic.{⊎_elim}
+use Prim.Native.Nat.{◌-◌, suc}
+use mathlib.Core.List.{append-nil}
 use mathlib.Core.Path.{◌≡◌, refl, ◌∙◌}
-use lib.ListN.{replicate}
-use borrow.Author.Rules.{rules}
 use native.Mathlib.Nat.{add-mul, zero-mul}
 use native.Mathlib.Numerals.{add-one}
 use native.Mathlib.Omega.{arith}

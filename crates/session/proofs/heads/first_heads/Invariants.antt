@@ -1,15 +1,9 @@
 -- `heads::first_heads` meets its contract. The loop's invariant: the roles below this one have their heads, the others 0. Assumes nothing.
-use Prim.Native.Nat.{◌-◌, ◌≤◌, ◌*◌, suc}
-use mathlib.Core.List.{◌++◌, append-nil}
-use mathlib.Core.Logic.{⊎_elim}
-use mathlib.Core.Path.{◌≡◌, refl, ◌∙◌}
+use Prim.Native.Nat.{◌-◌, ◌≤◌, ◌*◌}
+use mathlib.Core.List.{◌++◌}
+use mathlib.Core.Path.{◌≡◌}
 use lib.ListN.{replicate}
-use borrow.Author.Rules.{rules}
-use native.Mathlib.Nat.{add-mul, zero-mul}
-use native.Mathlib.Numerals.{add-one}
-use native.Mathlib.Omega.{arith}
 use Rattle.session.specs.mirror.Heads.{heads_from}
-use Rattle.session.proofs.First.{one_head, no_head}
 use Rattle.session.proofs.heads.first_heads.Given as goal
 
 abbrev pub invariant-loop-role : goal.invariant-loop-role

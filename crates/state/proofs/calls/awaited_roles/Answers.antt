@@ -1,7 +1,6 @@
 -- `calls::awaited_roles` meets its promise. Assumes nothing.
 use Rattle.state.specs.mirror.State.{state_of}
 use Rattle.state.proofs.Judging.{ground_stands, waiting_refused, waiting_accepted}
-use borrow.Author.Rules.{rules}
 use Rattle.state.proofs.calls.awaited_roles.Goals as goal
 
 pub returns-then-ground-ne-ACCEPTED : goal.returns-then-ground-ne-ACCEPTED

@@ -1,10 +1,8 @@
 -- `calls::awaited_set` meets its contract. The loop's invariant: the set holds the awaited roles below this one. Assumes nothing.
 use Rattle.state.proofs.calls.awaited_set.Goals.{then-can_act, else-can_act}
-use Prim.Native.Nat.{ℕ, ◌-◌, ◌≤◌, ◌*◌, ◌^◌, ◌%◌}
-use mathlib.Core.Logic.{⊎_elim}
+use Prim.Native.Nat.{ℕ, ◌*◌, ◌^◌, ◌%◌}
 use mathlib.Core.Path.{◌≡◌, refl, sym, ◌∙◌, ap}
 use lib.Bits.{bit_or}
-use borrow.Author.Rules.{rules}
 use native.Mathlib.Nat.{add-mul, zero-mul}
 use native.Mathlib.Numerals.{add-one}
 use native.Mathlib.Omega.{arith}

@@ -1,20 +1,10 @@
 -- `calls::awaited_set` meets its contract. The loop's invariant: the set holds the awaited roles below this one. Assumes nothing.
-use Prim.Native.Nat.{ℕ, ◌-◌, ◌≤◌, ◌*◌, ◌^◌, ◌%◌}
-use mathlib.Core.Logic.{⊎_elim}
-use mathlib.Core.Path.{◌≡◌, refl, sym, ◌∙◌, ap}
-use lib.Bits.{bit_or}
-use borrow.Author.Rules.{rules}
-use native.Mathlib.Nat.{add-mul, zero-mul}
-use native.Mathlib.Numerals.{add-one}
-use native.Mathlib.Omega.{arith}
-use Rattle.words.specs.Below.{set_of, sum}
+use Prim.Native.Nat.{◌-◌, ◌≤◌, ◌*◌}
+use mathlib.Core.Path.{◌≡◌}
+use Rattle.words.specs.Below.{set_of}
 use Rattle.table.specs.Limits.{base}
 use Rattle.state.specs.Awaited.{is_awaited}
 use Rattle.state.specs.mirror.State.{state_of}
-use Rattle.blocks.proofs.Sound.{good_sized}
-use Rattle.blocks.proofs.Good.{sized_bounds}
-use Rattle.state.proofs.Sets.{set_or, set_not}
-use Rattle.state.proofs.Acting.{acts_read, low_peer}
 use Rattle.state.proofs.calls.awaited_set.Given as goal
 
 abbrev pub invariant-loop-role : goal.invariant-loop-role

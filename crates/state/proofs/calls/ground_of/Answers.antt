@@ -1,9 +1,7 @@
 -- `calls::ground_of` meets its contract. Assumes nothing.
 use mathlib.Core.Path.{sym, ◌∙◌}
-use borrow.Author.Tests.{not-true, not-false}
 use Rattle.state.specs.mirror.Judged.{ground_of}
 use Rattle.blocks.proofs.Sound.{bad_tables, good_tables}
-use borrow.Author.Rules.{rules}
 use Rattle.state.proofs.calls.ground_of.Goals as goal
 
 pub returns-then-rows-eq0 : goal.returns-then-rows-eq0

@@ -3,7 +3,6 @@ use mathlib.Core.Path.{◌∙◌}
 use Rattle.state.specs.mirror.State.{state_of}
 use Rattle.state.specs.mirror.Judged.{send_judged}
 use Rattle.state.proofs.Judging.{party_refuses, party_stands, pair_low, send_judged_lem}
-use borrow.Author.Rules.{rules}
 use Rattle.state.proofs.calls.judge_send.Goals as goal
 
 pub returns-then-number-ne-ACCEPTED : goal.returns-then-number-ne-ACCEPTED

@@ -1,7 +1,6 @@
 -- `calls::party` meets its contract. Assumes nothing.
 use mathlib.Core.Path.{sym, ◌∙◌}
 use borrow.Author.Tests.{ne_eqb}
-use borrow.Author.Rules.{rules}
 use Rattle.state.proofs.calls.party.Goals as goal
 
 pub returns-then-number-ne-ACCEPTED : goal.returns-then-number-ne-ACCEPTED

@@ -4,7 +4,6 @@ use native.Mathlib.Nat.{add-zero}
 use native.Mathlib.Omega.{arith}
 use Rattle.blocks.proofs.Walk.{row_read}
 use Rattle.state.proofs.Judging.{start_low}
-use borrow.Author.Rules.{rules}
 use Rattle.state.proofs.calls.receive_from.Goals as goal
 
 pub overflow_mul-start : goal.overflow_mul-start

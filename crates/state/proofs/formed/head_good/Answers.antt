@@ -1,7 +1,6 @@
 -- `formed::head_good` meets its contract. Assumes nothing.
 use borrow.Author.Tests.{lt-ltb, le-ltb}
 use Rattle.blocks.proofs.Walk.{row_read}
-use borrow.Author.Rules.{rules}
 use Rattle.state.proofs.formed.head_good.Goals as goal
 
 pub returns-then-role-roles : goal.returns-then-role-roles

@@ -1,16 +1,9 @@
 -- `formed::heads_good` meets its contract. The loop's invariant: every earlier role's head is good. Assumes nothing.
 use Prim.Native.Nat.{ℕ, ◌-◌, ◌<◌, ◌≤◌, ◌*◌}
 use mathlib.Core.Bool.{true}
-use mathlib.Core.Path.{◌≡◌, sym, ◌∙◌}
+use mathlib.Core.Path.{◌≡◌}
 use lib.ListN.{get_or}
-use borrow.Author.Rules.{rules}
-use native.Mathlib.Nat.{add-mul, zero-mul}
-use native.Mathlib.Omega.{arith}
-use borrow.Author.Count.{below_none, below_more}
-use borrow.Author.Tests.{not-true, not-false}
-use Rattle.words.proofs.Below.{every_all, every_fails}
 use Rattle.state.specs.mirror.State.{head_good_at}
-use Rattle.state.proofs.Queues.{head_start}
 use Rattle.state.proofs.formed.heads_good.Given as goal
 
 abbrev pub invariant-loop-role : goal.invariant-loop-role

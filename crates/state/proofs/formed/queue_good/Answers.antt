@@ -1,6 +1,5 @@
 -- `formed::queue_good` meets its contract. Assumes nothing.
 use Rattle.state.proofs.Queues.{queue_read}
-use borrow.Author.Rules.{rules}
 use Rattle.state.proofs.formed.queue_good.Goals as goal
 
 pub returns : goal.returns

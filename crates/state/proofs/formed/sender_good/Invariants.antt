@@ -1,11 +1,7 @@
 -- `formed::sender_good` meets its contract. The loop's invariant: every queue to an earlier receiver is good. Assumes nothing.
 use Prim.Native.Nat.{ℕ, ◌-◌, ◌<◌, ◌≤◌}
 use mathlib.Core.Bool.{true}
-use mathlib.Core.Path.{◌≡◌, sym, ◌∙◌}
-use native.Mathlib.Omega.{arith}
-use borrow.Author.Count.{below_none, below_more}
-use borrow.Author.Tests.{not-true, not-false}
-use Rattle.words.proofs.Below.{every_all, every_fails}
+use mathlib.Core.Path.{◌≡◌}
 use Rattle.table.specs.Limits.{base}
 use Rattle.state.specs.State.{queue_good}
 use Rattle.state.specs.mirror.State.{queues}

@@ -1,6 +1,5 @@
 -- `formed::slot_good` meets its contract. Assumes nothing.
 use borrow.Author.Tests.{lt-ltb, le-ltb}
-use borrow.Author.Rules.{rules}
 use Rattle.state.proofs.formed.slot_good.Goals as goal
 
 pub returns-then-slot-count : goal.returns-then-slot-count

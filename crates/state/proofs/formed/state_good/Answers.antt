@@ -1,6 +1,5 @@
 -- `formed::state_good` meets its contract. Assumes nothing.
 use Rattle.state.proofs.Queues.{state_read}
-use borrow.Author.Rules.{rules}
 use Rattle.state.proofs.formed.state_good.Goals as goal
 
 pub returns : goal.returns

@@ -7,7 +7,6 @@ use borrow.Author.Tests.{lt-ltb}
 use Rattle.table.specs.Limits.{base}
 use Rattle.state.specs.mirror.Turns.{acts_at}
 use Rattle.state.proofs.Turning.{no_action}
-use borrow.Author.Rules.{rules}
 use Rattle.state.proofs.turns.can_act.Goals as goal
 
 pub bounds-counts-pair : goal.bounds-counts-pair

@@ -1,9 +1,8 @@
 -- `turns::has_arm` meets its contract. Assumes nothing.
-use mathlib.Core.Path.{sym, ◌∙◌}
+use mathlib.Core.Path.{sym}
 use Rattle.blocks.specs.Head.{find}
 use Rattle.blocks.specs.mirror.Rows.{chain_at}
 use Rattle.state.proofs.Turning.{found_nothing, found_at}
-use borrow.Author.Rules.{rules}
 use Rattle.state.proofs.turns.has_arm.Goals as goal
 
 pub returns-in-Nothing : goal.returns-in-Nothing

@@ -6,8 +6,6 @@ use Rattle.blocks.specs.mirror.Rows.{chain_at}
 use Rattle.state.specs.declared.Turn.TheVariants.{Offered}
 use Rattle.state.specs.mirror.Turns.{receive_turn, receive_found}
 use Rattle.state.proofs.Turning.{found_nothing, found_at}
-use borrow.Author.Rules.{rules}
-use Rattle.words.proofs.wide.Reads as wide_reads'
 use Rattle.state.proofs.turns.receive_arm.Goals as goal
 
 pub returns-then-wide-sender : goal.returns-then-wide-sender

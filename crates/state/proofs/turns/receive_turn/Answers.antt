@@ -1,7 +1,6 @@
 -- `turns::receive_turn` meets its contract. Assumes nothing.
 use Rattle.table.specs.Limits.{base}
 use Rattle.state.proofs.Turning.{no_receive}
-use borrow.Author.Rules.{rules}
 use Rattle.state.proofs.turns.receive_turn.Goals as goal
 
 pub returns-in-6 : goal.returns-in-6

@@ -1,6 +1,5 @@
 -- `turns::send_turn` meets its contract. Assumes nothing.
 use Rattle.state.proofs.Turning.{no_send}
-use borrow.Author.Rules.{rules}
 use Rattle.state.proofs.turns.send_turn.Goals as goal
 
 pub returns-in-5 : goal.returns-in-5
