@@ -13,7 +13,7 @@ use Rattle.lines.specs.declared.read.Count.{Count}
 use Rattle.lines.specs.declared.read.Count.TheVariants.{Of, Malformed}
 use Rattle.lines.specs.declared.read.Place.{Place}
 use Rattle.lines.specs.declared.read.Place.TheVariants.{Letter}
-use Rattle.lines.specs.Line.{part, parts, is_empty, is_number_lem, values, value, well_formed, numbers_of, count_of}
+use Rattle.lines.specs.Line.{part, parts, is_empty, is_number, values, value, well_formed, numbers_of, count_of}
 use Rattle.lines.specs.Over.{overlaid, behind}
 use Rattle.lines.specs.mirror.Places.{step_of, ended_of, whole_of}
 use Rattle.lines.proofs.Reading.{to_store, last, read_line}
@@ -55,7 +55,7 @@ few_behind false vs n l = omega arith
 few_values : (ps : List (List ℕ)) → length (values ps) ≤ length ps
 unfolding values
 few_values [] = omega arith
-few_values (p ∷ ps) = few (is_number_lem p) (value p) (values ps) (length ps) (few_values ps)
+few_values (p ∷ ps) = few (is_number p) (value p) (values ps) (length ps) (few_values ps)
 
 few_parts : (bs : List ℕ) → length (parts bs) ≤ length bs
 unfolding parts

@@ -10,7 +10,7 @@ use lib.Dec.{leb, ltb, eqb}
 use borrow.Author.Tests.{lt-ltb, le-leb, leb-true, ltb-true, ltb-false, ne_eqb}
 use lib.ListN.{length, length-append}
 use Rattle.words.proofs.Below.{and_both}
-use Rattle.lines.specs.Line.{part, parts, is_digit, all_digits, value, is_number_lem, all_numbers, values, well_formed, numbers_of}
+use Rattle.lines.specs.Line.{part, parts, is_digit, all_digits, value, is_number, all_numbers, values, well_formed, numbers_of}
 use Rattle.lines.specs.Over.{all_below}
 use Rattle.lines.specs.Text.{digits_of, decimal, text_of}
 
@@ -83,10 +83,10 @@ module _ (rest : List ℕ) (ends : part rest ≡ []) where
       let both = and_both (is_digit d) (all_digits ds) e in
       rw (no_blank d both.0) (parts_digits ds both.1)
 
-is_number : (n : ℕ) (ds : List ℕ) → n < 2 ^ 32 → Digits n ds → is_number_lem ds ≡ true
-unfolding is_number_lem
-is_number n [] l d = absurd (omega (arith, d.some))
-is_number n (b ∷ ds) l d = rw (d.digits, d.stand) (lt-ltb n (2 ^ 32) l)
+is_number_lem : (n : ℕ) (ds : List ℕ) → n < 2 ^ 32 → Digits n ds → is_number ds ≡ true
+unfolding is_number
+is_number_lem n [] l d = absurd (omega (arith, d.some))
+is_number_lem n (b ∷ ds) l d = rw (d.digits, d.stand) (lt-ltb n (2 ^ 32) l)
 
 at_blank : (ns : List ℕ) → part (spaced ns) ≡ []
 unfolding part spaced
@@ -101,7 +101,7 @@ numbers_back (n ∷ ns) e =
     let small : n < 2 ^ 32 = ltb-true n (2 ^ 32) both.0 in
     let d = spelling_of n small in
     let back = numbers_back ns both.1 in
-    rw (part_digits (spaced ns) (at_blank ns) (decimal n) d.digits, parts_digits (spaced ns) (at_blank ns) (decimal n) d.digits, is_number n (decimal n) small d, d.stand)
+    rw (part_digits (spaced ns) (at_blank ns) (decimal n) d.digits, parts_digits (spaced ns) (at_blank ns) (decimal n) d.digits, is_number_lem n (decimal n) small d, d.stand)
     (ap (λ (l : List ℕ). n ∷ l) back.0, back.1)
 
 pub read_back : (letter : ℕ) (ns : List ℕ) → all_below (2 ^ 32) ns ≡ true → (well_formed (letter ∷ spaced ns) ≡ true) × (numbers_of (letter ∷ spaced ns) ≡ ns)

@@ -10,7 +10,7 @@ use borrow.Author.Tests.{lt-ltb, le-ltb, ltb-true, ltb-false, eqb-true}
 use lib.ListN.{length}
 use Rattle.lines.specs.declared.read.Place.{Place}
 use Rattle.lines.specs.declared.read.Place.TheVariants.{Letter, Blank, Number, Wrong}
-use Rattle.lines.specs.Line.{part, parts, is_digit, all_digits, is_empty, value, is_number_lem, all_numbers, values}
+use Rattle.lines.specs.Line.{part, parts, is_digit, all_digits, is_empty, value, is_number, all_numbers, values}
 use Rattle.lines.specs.mirror.Places.{digit_of, step_of, ended_of, whole_of}
 
 -- the numbers that are stored from a place on, the last one at the line's end
@@ -70,14 +70,14 @@ more_digits n b bs true false e f in_number =
 more_digits n b bs false t e f in_number = rw e (wrong bs)
 
 abbrev BehindBlank : List ℕ → Type 0
-BehindBlank bs = Reads Blank bs (is_number_lem (part bs)) (value (part bs)) (parts bs)
+BehindBlank bs = Reads Blank bs (is_number (part bs)) (value (part bs)) (parts bs)
 
 no_digit : (bs : List ℕ) → Reads (digit_of 0 32) bs false 0 []
 unfolding digit_of is_digit
 no_digit bs = wrong bs
 
 blank_byte : (b : ℕ) (bs : List ℕ) (t : Bool) → eqb b 32 ≡ t → InNumber bs → BehindBlank (b ∷ bs)
-unfolding to_store last step_of ended_of part parts is_number_lem
+unfolding to_store last step_of ended_of part parts is_number
 blank_byte b bs true e in_number = rw (eqb-true b 32 e) (no_digit bs)
 blank_byte b bs false e in_number = rw (e, from_none (b ∷ part bs)) (more_digits 0 b bs (is_digit b) (ltb (0 * 10 + (b - 48)) (2 ^ 32)) refl refl in_number)
 
@@ -88,7 +88,7 @@ number_byte b bs true e behind_blank in_number n l =
 number_byte b bs false e behind_blank in_number n l = rw e (more_digits n b bs (is_digit b) (ltb (n * 10 + (b - 48)) (2 ^ 32)) refl refl in_number)
 
 both : (bs : List ℕ) → BehindBlank bs × InNumber bs
-unfolding to_store last ended_of part parts is_number_lem all_digits values all_numbers
+unfolding to_store last ended_of part parts is_number all_digits values all_numbers
 both [] = ((refl, refl), λ n l. rw (no_longer n, lt-ltb n (2 ^ 32) l) (refl, refl))
 both (b ∷ bs) = (blank_byte b bs (eqb b 32) refl (both bs).1, number_byte b bs (eqb b 32) refl (both bs).0 (both bs).1)
 

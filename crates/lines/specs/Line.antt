@@ -31,18 +31,18 @@ value [] = 0
 value (b ∷ bs) = (b - 48) * 10 ^ length bs + value bs
 
 -- one or more digits, of a number of 32 bits; zeros may stand in front
-unfoldable pub is_number_lem : List ℕ → Bool
-is_number_lem [] = false
-is_number_lem (b ∷ bs) = all_digits (b ∷ bs) && ltb (value (b ∷ bs)) (2 ^ 32)
+unfoldable pub is_number : List ℕ → Bool
+is_number [] = false
+is_number (b ∷ bs) = all_digits (b ∷ bs) && ltb (value (b ∷ bs)) (2 ^ 32)
 
 unfoldable pub all_numbers : List (List ℕ) → Bool
 all_numbers [] = true
-all_numbers (p ∷ ps) = is_number_lem p && all_numbers ps
+all_numbers (p ∷ ps) = is_number p && all_numbers ps
 
 -- the values of the parts up to the first that is no number
 unfoldable pub values : List (List ℕ) → List ℕ
 values [] = []
-values (p ∷ ps) = cond (is_number_lem p) (value p ∷ values ps) []
+values (p ∷ ps) = cond (is_number p) (value p ∷ values ps) []
 
 -- nothing stands between the letter and the first blank, and each part behind a blank is a number
 unfoldable pub well_formed : List ℕ → Bool

@@ -11,7 +11,7 @@ use Rattle.opening.specs.Marked.{t1}
 use Rattle.opening.specs.Opening.{open_of, blocks}
 use Rattle.session.specs.Calls.{fresh_of, send_of, receive_of}
 use Rattle.session.specs.Awaited.{awaited_of}
-use Rattle.lines.specs.Line.{part, parts, is_digit, all_digits, value, is_number_lem, all_numbers, values, well_formed, numbers_of}
+use Rattle.lines.specs.Line.{part, parts, is_digit, all_digits, value, is_number, all_numbers, values, well_formed, numbers_of}
 use Rattle.lines.specs.Over.{all_below}
 use Rattle.lines.specs.Text.{digits_of, decimal, text_of}
 use Rattle.orders.specs.Orders.{Kept, at_first, opened, tabled, open_order, table_order, is_state, freshened, sent, received, is_call, call_order, order_of}
@@ -64,10 +64,10 @@ malformed = refl
 
 -- "o 2 9" is answered "1 0"
 line : (answer_of base (at_first base) (111 ∷ 32 ∷ 50 ∷ 32 ∷ 57 ∷ [])).text ≡ 49 ∷ 32 ∷ 48 ∷ 10 ∷ []
-unfolding answer_of reply_to worded order_of open_order well_formed part all_numbers parts is_number_lem all_digits is_digit value numbers_of values all_below opened text_of decimal digits_of open_of
+unfolding answer_of reply_to worded order_of open_order well_formed part all_numbers parts is_number all_digits is_digit value numbers_of values all_below opened text_of decimal digits_of open_of
 line = refl
 
 -- "f " is answered "?"
 question : (answer_of base (at_first base) (102 ∷ 32 ∷ [])).text ≡ 63 ∷ 10 ∷ []
-unfolding answer_of reply_to worded well_formed part all_numbers parts is_number_lem
+unfolding answer_of reply_to worded well_formed part all_numbers parts is_number
 question = refl

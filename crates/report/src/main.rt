@@ -27,6 +27,11 @@ struct Reading {
     log: Log,
 }
 
+// More bytes of the input; none at its end.
+fn read_more(reader: &mut impl Read, input: &mut Input) -> io::Result<usize> {
+    reader.read(input)
+}
+
 // A last line without its newline is given one.
 fn last(input: &mut Input, length: usize) -> usize {
     if length <= FRONT {
@@ -121,7 +126,7 @@ fn main(rt: HostRuntime) -> io::Result<()> {
     // A proved loop has to end, and nothing says that the input does: no run uses these turns up.
     let mut turns = u64::MAX;
     while turns > 0 {
-        let mut count = reader.read(&mut input)?;
+        let mut count = read_more(&mut reader, &mut input)?;
         if count == 0 {
             turns = 1;
             count = last(&mut input, reading.length);
