@@ -82,10 +82,7 @@ fn open_arm(word: u16, out: &mut [u16], from: usize, row: usize, depth: usize, w
     words::put_row(
         out,
         from + row,
-        ARM,
-        word / KINDS,
-        narrow(depth),
-        narrow(wait),
+        [ARM, word / KINDS, narrow(depth), narrow(wait)],
     );
 }
 
@@ -116,7 +113,7 @@ fn end_part(
     let depth = words::word(out, arm, 2);
     let outer = words::word(out, arm, 3);
     let next = next_row(src, code, row);
-    words::put_row(out, arm, ARM, label, narrow(wait), next);
+    words::put_row(out, arm, [ARM, label, narrow(wait), next]);
     Resumed {
         depth: words::wide(depth),
         wait: words::wide(outer),
@@ -129,7 +126,7 @@ fn put_loop(out: &mut [u16], from: usize, row: usize, loops: &mut [u16], depth: 
     requires { (from ≤ LIMIT) × (row < LIMIT) }
     ensures { (out.new ≡ put_loop out.old from row) × (loops.new ≡ set loops.old depth row) }
 {
-    words::put_row(out, from + row, LOOP, narrow(row + 1), 0, 0);
+    words::put_row(out, from + row, [LOOP, narrow(row + 1), 0, 0]);
     words::poke(loops, depth, narrow(row));
 }
 
@@ -149,7 +146,7 @@ fn put_last(
         return row;
     }
     let home = loop_row(word, loops, depth);
-    words::put_row(out, from + row, word % KINDS, home, 0, 0);
+    words::put_row(out, from + row, [word % KINDS, home, 0, 0]);
     row + 1
 }
 
@@ -161,10 +158,7 @@ fn put_action(word: u16, out: &mut [u16], from: usize, row: usize)
     words::put_row(
         out,
         from + row,
-        word % KINDS,
-        word / KINDS,
-        narrow(row + 1),
-        0,
+        [word % KINDS, word / KINDS, narrow(row + 1), 0],
     );
 }
 
@@ -241,7 +235,7 @@ fn clear(out: &mut [u16], from: usize, first: usize, rows: usize)
 {
     let mut row = first;
     while row < rows {
-        words::put_row(out, from + row, 0, 0, 0, 0);
+        words::put_row(out, from + row, [0, 0, 0, 0]);
         row += 1;
     }
 }

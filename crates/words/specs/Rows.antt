@@ -1,9 +1,13 @@
 -- Rows of four words in a list of words. Assumes nothing.
-use Rattle.std.specs.Prelude.{ℕ, ◌+◌, ◌*◌, ◌/◌, cond, List, ltb, get_or, length, set}
+use Rattle.std.specs.Prelude.{ℕ, ◌+◌, ◌*◌, ◌/◌, cond, List, [], ◌∷◌, ltb, get_or, length, set}
 
 -- the k-th word of row i; 0 past the end
 abbrev pub word : List ℕ → ℕ → ℕ → ℕ
 word ws i k = get_or ws (i * 4 + k) 0
+
+-- the four words of row i
+abbrev pub row_words : List ℕ → ℕ → List ℕ
+row_words ws i = word ws i 0 ∷ word ws i 1 ∷ word ws i 2 ∷ word ws i 3 ∷ []
 
 -- how many rows the words make
 abbrev pub rows_of : List ℕ → ℕ

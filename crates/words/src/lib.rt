@@ -2,55 +2,69 @@
 #![tactic(auto)]
 
 ghost use Rattle.std.specs.Prelude.{◌≡◌, ◌<◌, get_or, set};
-ghost use Rattle.words.specs.Rows.{word, put_row};
+ghost use Rattle.words.specs.Rows.{word, row_words, put_row};
 
 // The word at i, or 0 past the end.
-pub fn peek(ws: &[u16], i: usize) -> u16
-    ensures { result ≡ get_or ws.now i 0 }
+pub fn peek(words: &[u16], i: usize) -> u16
+    ensures { result ≡ get_or words.now i 0 }
 {
-    if i < ws.len() { ws[i] } else { 0 }
+    words.get(i).copied().unwrap_or(0)
 }
 
-// The word at i is v; nothing is done past the end.
-pub fn poke(ws: &mut [u16], i: usize, v: u16)
-    ensures { ws.new ≡ set ws.old i v }
+// The word at i is `word`; nothing is done past the end.
+pub fn poke(words: &mut [u16], i: usize, word: u16)
+    ensures { words.new ≡ set words.old i word }
 {
-    if i < ws.len() {
-        ws[i] = v;
+    if i < words.len() {
+        words[i] = word;
     }
 }
 
 // The word k of a row, or 0 past the end. No sum is made that could wrap.
-pub fn word(ws: &[u16], row: usize, k: usize) -> u16
-    ensures { result ≡ word ws.now row k }
+pub fn word(words: &[u16], row: usize, k: usize) -> u16
+    ensures { result ≡ word words.now row k }
 {
-    if ws.len() / 4 < row {
+    if words.len() / 4 < row {
         return 0;
     }
-    let at = row * 4;
-    if ws.len() - at <= k {
-        return 0;
+    peek(&words[row * 4..], k)
+}
+
+// The four words of a row, 0 for each past the end. One test serves all four words of a row inside.
+pub fn row(words: &[u16], row: usize) -> [u16; 4]
+    ensures { result ≡ row_words words.now row }
+{
+    let rows = words.len() / 4;
+    if row < rows {
+        let at = row * 4;
+        return [words[at], words[at + 1], words[at + 2], words[at + 3]];
     }
-    ws[at + k]
+    [
+        word(words, row, 0),
+        word(words, row, 1),
+        word(words, row, 2),
+        word(words, row, 3),
+    ]
 }
 
 // A word as a row, a role or a label.
 pub fn wide(x: u16) -> usize
     ensures { (result ≡ x) × (result < 65536) }
 {
-    x as usize
+    usize::from(x)
 }
 
 // The row holds these four words; nothing is done where it is not wholly inside.
 #[tactic(auto, unfolding(crate::specs::Rows::put_row))]
-pub fn put_row(ws: &mut [u16], row: usize, a: u16, b: u16, c: u16, d: u16)
-    ensures { ws.new ≡ put_row ws.old row a b c d }
+pub fn put_row(words: &mut [u16], row: usize, four: [u16; 4])
+    ensures { words.new ≡ put_row words.old row (get_or four 0 0) (get_or four 1 0) (get_or four 2 0) (get_or four 3 0) }
 {
-    if row < ws.len() / 4 {
+    if row < words.len() / 4 {
         let at = row * 4;
-        ws[at] = a;
-        ws[at + 1] = b;
-        ws[at + 2] = c;
-        ws[at + 3] = d;
+        let [first, second, third, fourth] = four;
+        words[at] = first;
+        words[at + 1] = second;
+        words[at + 2] = third;
+        words[at + 3] = fourth;
     }
 }
