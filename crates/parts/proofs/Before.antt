@@ -1,4 +1,4 @@
--- Request K4: what merged before merges to the same part, and so each role that had a part has the same part. Assumes nothing.
+-- What merged before two sends could merge arm by arm merges to the same part, and so each role that had a part has the same part. Assumes nothing.
 use Prim.Native.Nat.{ℕ}
 use mathlib.Core.Bool.{Bool, true, false, cond, ◌||◌}
 use mathlib.Core.List.{List}

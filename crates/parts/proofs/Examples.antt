@@ -1,4 +1,4 @@
--- Document 01, 'Parts: projection and merge': a loop in which a role takes no part still stands in its part where a back of it leads to a
+-- The customer's paper, 'Parts: projection and merge': a loop in which a role takes no part still stands in its part where a back of it leads to a
 -- loop further out. T7's tree shows it, by computation. Assumes nothing.
 use Prim.Native.Nat.{ℕ}
 use mathlib.Core.Option.{some}

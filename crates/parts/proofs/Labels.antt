@@ -1,4 +1,4 @@
--- Request K4: for arms in rising label order, the labels are the same position by position exactly where each list has the other's
+-- For arms in rising label order, the labels are the same position by position exactly where each list has the other's
 -- labels. Assumes nothing.
 use Prim.Native.Nat.{ℕ, ◌<◌}
 use mathlib.Core.Bool.{Bool, true, false, cond, true≢false}

@@ -1,6 +1,7 @@
 pub mod Examples
 pub mod Grown
 pub mod Laws
+pub mod Read
 pub mod Lengths
 pub mod Rising
 pub mod Seven

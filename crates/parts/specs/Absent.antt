@@ -1,4 +1,4 @@
--- Document 01, 'Parts: projection and merge': who takes part below a Loop, and whether a Back below it leaves it. Assumes nothing.
+-- The customer's paper, 'Parts: projection and merge': who takes part below a Loop, and whether a Back below it leaves it. Assumes nothing.
 use Rattle.std.specs.Prelude.{ℕ, suc, Bool, false, ◌||◌, eqb, leb}
 use Rattle.table.specs.Tree.{Global, end, exchange, flight, loop, back, Arms, nil, arm}
 

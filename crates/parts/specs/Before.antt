@@ -1,4 +1,4 @@
--- Document 01, 'Parts: projection and merge', as it stood before request K4: two sends merge only if they are the same type throughout. Kept for
+-- The customer's paper, 'Parts: projection and merge', as it first stood: two sends merge only if they are the same type throughout. Kept for
 -- the theorem that no table accepted before gets a different part. Assumes nothing.
 use Rattle.std.specs.Prelude.{ℕ, cond, ◌||◌, List, ◌≡◌, eqb}
 use Rattle.std.proofs.Math.Option.{Option, none, some, bind}

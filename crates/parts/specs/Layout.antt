@@ -1,4 +1,4 @@
--- Document 01, 'Parts: projection and merge': how a part is stored in rows of four words. Assumes nothing.
+-- The customer's paper, 'Parts: projection and merge': how a part is stored in rows of four words. Assumes nothing.
 use Rattle.std.specs.Prelude.{ℕ, suc, ◌+◌, ◌-◌, List, [], ◌∷◌, ◌++◌, get_or, length, replicate}
 use Rattle.std.proofs.Math.Option.{Option, none, some}
 use Rattle.parts.specs.Part.{Part, p_end, p_send, p_receive, p_loop, p_back, PartArms, p_nil, p_arm}

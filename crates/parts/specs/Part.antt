@@ -1,4 +1,4 @@
--- Document 01, 'Parts: projection and merge': parts as trees. Assumes nothing.
+-- The customer's paper, 'Parts: projection and merge': parts as trees. Assumes nothing.
 use Rattle.std.specs.Prelude.{ℕ, cond, leb, eqb}
 use Rattle.std.proofs.Math.Option.{Option, none, some}
 

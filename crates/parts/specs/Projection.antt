@@ -1,4 +1,4 @@
--- Document 01, 'Parts: projection and merge': the part of a role. Assumes nothing.
+-- The customer's paper, 'Parts: projection and merge': the part of a role. Assumes nothing.
 use Rattle.std.specs.Prelude.{ℕ, Bool, true, false, cond, ◌||◌, List, eqb}
 use Rattle.std.proofs.Math.Option.{Option, none, some, bind}
 use Rattle.table.specs.Tree.{Global, end, exchange, flight, loop, back, Arms, nil, arm, tree_of}
