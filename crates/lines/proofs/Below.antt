@@ -2,30 +2,30 @@
 use Prim.Native.Nat.{ℕ, zero, suc, ◌+◌, ◌≤◌, ◌<◌}
 use mathlib.Core.Bool.{Bool, true, false}
 use mathlib.Core.List.{List, [], ◌∷◌}
-use mathlib.Core.Path.{◌≡◌, refl}
+use mathlib.Core.Path.{◌≡◌, refl, sym, ◌∙◌}
 use native.Mathlib.Numerals.{add-one}
 use native.Mathlib.Omega.{arith}
-use lib.Dec.{ltb}
-use borrow.Author.Tests.{lt-ltb, le-ltb, ltb-true, le-leb, lt-leb}
+use lib.Dec.{leb, ltb}
+use borrow.Author.Tests.{lt-ltb, le-ltb, ltb-true, le-leb, lt-leb, leb-true, leb-false}
 use lib.ListN.{length, get_or, drop, drop_of_length-le}
 use lib.Seq.{drop-cons}
+use Rattle.std.specs.List.{list_all}
 use Rattle.words.proofs.Below.{and_both}
 use Rattle.lines.specs.Over.{overlaid, all_below, fits, narrowed}
 
--- a number below the bound is passed
-pub passed : (bound : ℕ) (ns : List ℕ) (i : ℕ) → i < length ns → get_or ns i 0 < bound → all_below bound (drop (i + 1) ns) ≡ all_below bound (drop i ns)
-unfolding all_below
-passed bound ns i l b = rw (add-one i, drop-cons ns i 0 l, lt-ltb (get_or ns i 0) bound b)
+-- none is wider than the widest, said by a fold: all are below the number behind that
+one_at_most : (n widest : ℕ) (t : Bool) → leb n widest ≡ t → leb n widest ≡ ltb n (widest + 1)
+one_at_most n widest true e = rw (e, lt-ltb n (widest + 1) (omega (arith, leb-true n widest e)))
+one_at_most n widest false e = rw (e, le-ltb n (widest + 1) (omega (arith, leb-false n widest e)))
 
--- a number that is not below the bound settles it
-pub refused : (bound : ℕ) (ns : List ℕ) (i : ℕ) → i < length ns → bound ≤ get_or ns i 0 → false ≡ all_below bound (drop i ns)
+pub at_most : (widest : ℕ) (ns : List ℕ) → list_all (λ n. leb n widest) ns ≡ all_below (widest + 1) ns
 unfolding all_below
-refused bound ns i l b = rw (drop-cons ns i 0 l, le-ltb (get_or ns i 0) bound b)
+at_most widest [] = refl
+at_most widest (n ∷ ns) = rw (one_at_most n widest (leb n widest) refl, at_most widest ns)
 
--- none is left
-pub all_passed : (bound : ℕ) (ns : List ℕ) (i : ℕ) → length ns ≤ i → true ≡ all_below bound (drop i ns)
-unfolding all_below
-all_passed bound ns i l = rw (drop_of_length-le ns l)
+-- what the test for that answered
+pub all_of : (widest m : ℕ) (ns : List ℕ) (t : Bool) {r : Bool} → m ≡ widest → r ≡ list_all (λ n. leb n m) ns → r ≡ t → all_below (widest + 1) ns ≡ t
+all_of widest m ns t e f g = sym (at_most widest ns) ∙ (rw (← e) (sym f ∙ g))
 
 -- each of them is below the bound
 pub each_below : (bound : ℕ) (ns : List ℕ) (i : ℕ) → all_below bound ns ≡ true → i < length ns → get_or ns i 0 < bound

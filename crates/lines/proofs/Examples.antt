@@ -3,7 +3,7 @@ use Prim.Native.Nat.{ℕ}
 use mathlib.Core.Bool.{false}
 use mathlib.Core.List.{List, [], ◌∷◌}
 use mathlib.Core.Path.{◌≡◌, refl}
-use Rattle.lines.specs.declared.read.Count.TheVariants.{Of, Malformed}
+use Rattle.std.proofs.Common.{Some, None}
 use Rattle.lines.specs.Line.{part, parts, is_digit, all_digits, value, is_number, all_numbers, values, well_formed, numbers_of, count_of}
 use Rattle.lines.specs.Over.{overlaid, behind, all_below, fits, narrowed}
 use Rattle.lines.specs.Text.{digits_of, decimal, text_of}
@@ -16,36 +16,36 @@ whole_numbers : numbers_of whole ≡ 7 ∷ 4294967295 ∷ []
 unfolding part parts is_digit all_digits value is_number values numbers_of
 whole_numbers = refl
 
-whole_count : count_of whole 15 ≡ Of 2
+whole_count : count_of whole 15 ≡ Some 2
 unfolding part parts is_digit all_digits value is_number all_numbers values well_formed numbers_of count_of
 whole_count = refl
 
 -- a line longer than the room
-whole_long : count_of whole 14 ≡ Malformed
+whole_long : count_of whole 14 ≡ None
 unfolding part parts is_digit all_digits value is_number all_numbers values well_formed numbers_of count_of
 whole_long = refl
 
 -- "f": a letter alone has no numbers
-letter : count_of (102 ∷ []) 9 ≡ Of 0
+letter : count_of (102 ∷ []) 9 ≡ Some 0
 unfolding part parts is_number all_numbers values well_formed numbers_of count_of
 letter = refl
 
-empty : count_of [] 9 ≡ Malformed
+empty : count_of [] 9 ≡ None
 unfolding well_formed numbers_of count_of
 empty = refl
 
 -- "f ": a blank at the end
-blank_behind : count_of (102 ∷ 32 ∷ []) 9 ≡ Malformed
+blank_behind : count_of (102 ∷ 32 ∷ []) 9 ≡ None
 unfolding part parts is_number all_numbers values well_formed numbers_of count_of
 blank_behind = refl
 
 -- "f1 2": no blank behind the letter
-no_blank : count_of (102 ∷ 49 ∷ 32 ∷ 50 ∷ []) 9 ≡ Malformed
+no_blank : count_of (102 ∷ 49 ∷ 32 ∷ 50 ∷ []) 9 ≡ None
 unfolding part parts is_digit all_digits value is_number all_numbers values well_formed numbers_of count_of
 no_blank = refl
 
 -- "f 1  2": two blanks together; the number before them is read
-two_blanks : count_of (102 ∷ 32 ∷ 49 ∷ 32 ∷ 32 ∷ 50 ∷ []) 9 ≡ Malformed
+two_blanks : count_of (102 ∷ 32 ∷ 49 ∷ 32 ∷ 32 ∷ 50 ∷ []) 9 ≡ None
 unfolding part parts is_digit all_digits value is_number all_numbers values well_formed numbers_of count_of
 two_blanks = refl
 
@@ -54,20 +54,20 @@ unfolding part parts is_digit all_digits value is_number values numbers_of
 two_blanks_numbers = refl
 
 -- "f 1" with a tab, a sign or a carriage return
-tab : count_of (102 ∷ 9 ∷ 49 ∷ []) 9 ≡ Malformed
+tab : count_of (102 ∷ 9 ∷ 49 ∷ []) 9 ≡ None
 unfolding part parts is_digit all_digits value is_number all_numbers values well_formed numbers_of count_of
 tab = refl
 
-sign : count_of (102 ∷ 32 ∷ 43 ∷ 49 ∷ []) 9 ≡ Malformed
+sign : count_of (102 ∷ 32 ∷ 43 ∷ 49 ∷ []) 9 ≡ None
 unfolding part parts is_digit all_digits value is_number all_numbers values well_formed numbers_of count_of
 sign = refl
 
-return : count_of (102 ∷ 32 ∷ 49 ∷ 13 ∷ []) 9 ≡ Malformed
+return : count_of (102 ∷ 32 ∷ 49 ∷ 13 ∷ []) 9 ≡ None
 unfolding part parts is_digit all_digits value is_number all_numbers values well_formed numbers_of count_of
 return = refl
 
 -- "f 4294967296"
-too_wide : count_of (102 ∷ 32 ∷ 52 ∷ 50 ∷ 57 ∷ 52 ∷ 57 ∷ 54 ∷ 55 ∷ 50 ∷ 57 ∷ 54 ∷ []) 99 ≡ Malformed
+too_wide : count_of (102 ∷ 32 ∷ 52 ∷ 50 ∷ 57 ∷ 52 ∷ 57 ∷ 54 ∷ 55 ∷ 50 ∷ 57 ∷ 54 ∷ []) 99 ≡ None
 unfolding part parts is_digit all_digits value is_number all_numbers values well_formed numbers_of count_of
 too_wide = refl
 
@@ -85,19 +85,19 @@ unfolding text_of decimal digits_of
 text = refl
 
 -- in the middle, across the end, behind the end
-middle : overlaid 1 (7 ∷ 8 ∷ []) (1 ∷ 2 ∷ 3 ∷ 4 ∷ []) ≡ 1 ∷ 7 ∷ 8 ∷ 4 ∷ []
+middle : overlaid {A = ℕ} 1 (7 ∷ 8 ∷ []) (1 ∷ 2 ∷ 3 ∷ 4 ∷ []) ≡ 1 ∷ 7 ∷ 8 ∷ 4 ∷ []
 unfolding overlaid
 middle = refl
 
-across : overlaid 3 (7 ∷ 8 ∷ []) (1 ∷ 2 ∷ 3 ∷ 4 ∷ []) ≡ 1 ∷ 2 ∷ 3 ∷ 7 ∷ []
+across : overlaid {A = ℕ} 3 (7 ∷ 8 ∷ []) (1 ∷ 2 ∷ 3 ∷ 4 ∷ []) ≡ 1 ∷ 2 ∷ 3 ∷ 7 ∷ []
 unfolding overlaid
 across = refl
 
-across_ends : behind 3 (7 ∷ 8 ∷ []) (1 ∷ 2 ∷ 3 ∷ 4 ∷ []) ≡ 4
+across_ends : behind {A = ℕ} 3 (7 ∷ 8 ∷ []) (1 ∷ 2 ∷ 3 ∷ 4 ∷ []) ≡ 4
 unfolding behind
 across_ends = refl
 
-past : overlaid 6 (7 ∷ 8 ∷ []) (1 ∷ 2 ∷ 3 ∷ 4 ∷ []) ≡ 1 ∷ 2 ∷ 3 ∷ 4 ∷ []
+past : overlaid {A = ℕ} 6 (7 ∷ 8 ∷ []) (1 ∷ 2 ∷ 3 ∷ 4 ∷ []) ≡ 1 ∷ 2 ∷ 3 ∷ 4 ∷ []
 unfolding overlaid
 past = refl
 

@@ -7,3 +7,4 @@ pub mod Reading
 pub mod Stores
 pub mod Texts
 pub mod Promises
+pub mod Putting

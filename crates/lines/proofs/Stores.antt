@@ -26,7 +26,7 @@ decide a b true e = inl (ltb-true a b e)
 decide a b false e = inr (ltb-false a b e)
 
 -- nothing written
-none_over : (at : ℕ) (old : List ℕ) → old ≡ overlaid at [] old
+pub none_over : (at : ℕ) (old : List ℕ) → old ≡ overlaid at [] old
 unfolding overlaid
 none_over at old = rw (take-nil (length old - at), add-zero at, append-nil (take at old), take-append-drop at old)
 

@@ -1,8 +1,6 @@
 -- A line: a letter, then for each number one blank and one or more digits (second/README.md, points 2 to 4). Its first byte is its
 -- letter, whichever it is: whether there is such a command is not judged here. Assumes nothing.
-use Rattle.std.specs.Prelude.{ℕ, ◌+◌, ◌-◌, ◌*◌, ◌^◌, Bool, true, false, cond, ◌&&◌, List, [], ◌∷◌, leb, ltb, eqb, length}
-use Rattle.lines.specs.declared.read.Count.{Count}
-use Rattle.lines.specs.declared.read.Count.TheVariants.{Of, Malformed}
+use Rattle.std.specs.Prelude.{ℕ, ◌+◌, ◌-◌, ◌*◌, ◌^◌, Bool, true, false, cond, ◌&&◌, List, [], ◌∷◌, leb, ltb, eqb, length, Option, Some, None}
 
 -- the bytes up to the first blank
 unfoldable pub part : List ℕ → List ℕ
@@ -54,6 +52,6 @@ unfoldable pub numbers_of : List ℕ → List ℕ
 numbers_of [] = []
 numbers_of (letter ∷ bs) = cond (is_empty (part bs)) (values (parts bs)) []
 
--- the answer for a line that is read into so much room
-unfoldable pub count_of : List ℕ → ℕ → Count
-count_of line room = cond (leb (length line) room && well_formed line) (Of (length (numbers_of line))) Malformed
+-- the answer for a line that is read into so much room: how many numbers, or none of a malformed line
+unfoldable pub count_of : List ℕ → ℕ → Option ℕ
+count_of line room = cond (leb (length line) room && well_formed line) (Some (length (numbers_of line))) None

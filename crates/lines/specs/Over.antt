@@ -1,12 +1,12 @@
--- Numbers written over others. Assumes nothing.
+-- Items written over others. Assumes nothing.
 use Rattle.std.specs.Prelude.{ℕ, ◌+◌, ◌-◌, min, Bool, true, cond, ◌&&◌, List, [], ◌∷◌, ◌++◌, leb, ltb, length, take, drop}
 
 -- xs over the old ones from place `at` on, as many as there is room for; what stands before and behind them stays
-unfoldable pub overlaid : ℕ → List ℕ → List ℕ → List ℕ
+unfoldable pub overlaid : {A : Type 0} → ℕ → List A → List A → List A
 overlaid at xs old = take at old ++ take (length old - at) xs ++ drop (at + length xs) old
 
 -- the place behind the last one written
-unfoldable pub behind : ℕ → List ℕ → List ℕ → ℕ
+unfoldable pub behind : {A : Type 0} → ℕ → List A → List A → ℕ
 behind at xs old = at + min (length xs) (length old - at)
 
 -- every number is below the bound

@@ -1,88 +1,103 @@
 // Numbers as words or bytes, if all fit.
-ghost use Rattle.std.specs.Prelude.{◌≡◌};
-ghost use Rattle.lines.specs.Over.{all_below};
-ghost use Rattle.lines.specs.Promises.{Puts, Narrows, Copies, Least, Cuts};
+ghost use Rattle.std.specs.Prelude.{◌≡◌, refl, ℕ, ◌+◌, ◌≤◌, List, length, nat_le, slice_set, take};
+ghost use Rattle.std.specs.List.{list_all};
+ghost use Rattle.lines.specs.Promises.{Puts, Narrows, Copies, Cuts};
 
-pub fn least(a: usize, b: usize) -> usize
-    ensures { Least a b result }
+// The items from place `at` of `out` on, as many as it holds. Answers the place after the last.
+pub fn put<T: Copy>(items: &[T], out: &mut [T], at: usize) -> usize
+    ensures { Puts at items.now out.old result out.new }
 {
-    if a < b { a } else { b }
-}
-
-// `n`, or the length where that is less. The contract is what `&words[..n]` asks.
-pub fn cut_words(words: &[u16], n: usize) -> usize
-    ensures { Cuts words.now n result }
-{
-    least(n, words.len())
-}
-
-pub fn cut_numbers(numbers: &[u32], n: usize) -> usize
-    ensures { Cuts numbers.now n result }
-{
-    least(n, numbers.len())
-}
-
-pub fn cut_bytes(bytes: &[u8], n: usize) -> usize
-    ensures { Cuts bytes.now n result }
-{
-    least(n, bytes.len())
-}
-
-// A number as a size.
-pub fn size(n: u32) -> usize
-    ensures { result ≡ n }
-{
-    n as usize
-}
-
-// Every number is below the bound.
-fn all_below(numbers: &[u32], bound: u32) -> bool
-    ensures { result ≡ all_below bound numbers.now }
-{
-    let mut i = 0;
-    while i < numbers.len() {
-        if bound <= numbers[i] {
-            return false;
-        }
-        i += 1;
+    if out.len() < at {
+        return at;
     }
-    true
+    let end = at + (out.len() - at).min(items.len());
+    out[at..end].copy_from_slice(&items[..end - at]);
+    end
 }
 
-// The numbers as words at the start of `out`. False where one is wider than a word, or there are more than `out` holds: then
+// The first `n` items, or all where there are fewer.
+pub fn cut<T>(items: &[T], n: usize) -> &[T]
+    ensures items { result.now ≡ take n items.now }
+    ensures count { Cuts items.now n (length result.now) }
+{
+    &items[..n.min(items.len())]
+}
+
+// A kind of number that one of 32 bits may be too wide for: words and bytes.
+pub trait Width: Copy + Drop {
+    // The number that a value is, and those of a list of values.
+    ghost number: { Self → ℕ };
+
+    ghost numbers: { List Self → List ℕ };
+
+    ghost MAX: { ℕ };
+
+    // The widest number of this kind.
+    const MAX: u32;
+
+    // A number of this kind.
+    fn of(n: u32) -> Self
+        requires { n ≤ MAX }
+        ensures { number result ≡ n };
+
+    ghost length_of_numbers: { (xs : List Self) → length (numbers xs) ≡ length xs };
+
+    ghost numbers_of_set: { (xs : List Self) (i : ℕ) (x : Self) → numbers (slice_set xs i x) ≡ slice_set (numbers xs) i (number x) };
+}
+
+impl Width for u16 {
+    ghost number = { λ x. x };
+
+    ghost numbers = { λ xs. xs };
+
+    ghost MAX = { 65535 };
+
+    const MAX: u32 = 65535;
+
+    ghost length_of_numbers = { λ xs. refl };
+
+    ghost numbers_of_set = { λ xs i x. refl };
+
+    fn of(n: u32) -> u16 {
+        n as u16
+    }
+}
+
+impl Width for u8 {
+    ghost number = { λ x. x };
+
+    ghost numbers = { λ xs. xs };
+
+    ghost MAX = { 255 };
+
+    const MAX: u32 = 255;
+
+    ghost length_of_numbers = { λ xs. refl };
+
+    ghost numbers_of_set = { λ xs i x. refl };
+
+    fn of(n: u32) -> u8 {
+        n as u8
+    }
+}
+
+// No number is wider than `widest`.
+fn all_at_most(numbers: &[u32], widest: u32) -> bool
+    ensures { result ≡ list_all (λ n. nat_le n widest) numbers.now }
+{
+    numbers.iter().all(|n| *n <= widest)
+}
+
+// The numbers as words or bytes at the start of `out`. False where one is too wide for that, or there are more than `out` holds: then
 // nothing is written.
-pub fn words(numbers: &[u32], out: &mut [u16]) -> bool
-    ensures { Narrows 65536 numbers.now out.old result out.new }
+pub fn narrow<T: Width>(numbers: &[u32], out: &mut [T]) -> bool
+    ensures { Narrows (T.MAX + 1) numbers.now (T.numbers out.old) result (T.numbers out.new) }
 {
-    if out.len() < numbers.len() {
+    if out.len() < numbers.len() || !all_at_most(numbers, T::MAX) {
         return false;
     }
-    if !all_below(numbers, 65536) {
-        return false;
-    }
-    let mut i = 0;
-    while i < numbers.len() {
-        out[i] = numbers[i] as u16;
-        i += 1;
-    }
-    true
-}
-
-// The numbers as bytes at the start of `out`. False where one is wider than a byte, or there are more than `out` holds: then
-// nothing is written.
-pub fn bytes(numbers: &[u32], out: &mut [u8]) -> bool
-    ensures { Narrows 256 numbers.now out.old result out.new }
-{
-    if out.len() < numbers.len() {
-        return false;
-    }
-    if !all_below(numbers, 256) {
-        return false;
-    }
-    let mut i = 0;
-    while i < numbers.len() {
-        out[i] = numbers[i] as u8;
-        i += 1;
+    for (i, n) in numbers.iter().enumerate() {
+        out[i] = T::of(*n);
     }
     true
 }
@@ -91,14 +106,9 @@ pub fn bytes(numbers: &[u32], out: &mut [u8]) -> bool
 pub fn wide(words: &[u16], out: &mut [u32], at: usize) -> usize
     ensures { Puts at words.now out.old result out.new }
 {
-    if out.len() < at {
-        return at;
-    }
-    let count = least(words.len(), out.len() - at);
-    let mut i = 0;
-    while i < count {
-        out[at + i] = words[i] as u32;
-        i += 1;
+    let count = out.len().saturating_sub(at).min(words.len());
+    for (i, word) in words[..count].iter().enumerate() {
+        out[at + i] = u32::from(*word);
     }
     at + count
 }
@@ -107,10 +117,5 @@ pub fn wide(words: &[u16], out: &mut [u32], at: usize) -> usize
 pub fn copy(numbers: &[u32], out: &mut [u32])
     ensures { Copies numbers.now out.old out.new }
 {
-    let count = least(numbers.len(), out.len());
-    let mut i = 0;
-    while i < count {
-        out[i] = numbers[i];
-        i += 1;
-    }
+    put(numbers, out, 0);
 }

@@ -2,9 +2,11 @@
 #![tactic(auto)]
 
 mod fit;
+mod input;
 mod read;
 mod write;
 
-pub use fit::{bytes, copy, cut_bytes, cut_numbers, cut_words, least, size, wide, words};
-pub use read::{Count, numbers};
+pub use fit::{Width, copy, cut, narrow, wide};
+pub use input::{Line, each};
+pub use read::numbers;
 pub use write::text;

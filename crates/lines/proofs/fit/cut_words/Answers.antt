@@ -1,7 +1,0 @@
--- `lines::fit::cut_words` meets its contract: the lesser of two numbers counts words of the slice. Assumes nothing.
-use native.Mathlib.Omega.{arith}
-use lib.ListN.{length-take}
-use Rattle.lines.proofs.fit.cut_words.Goals as goal
-
-pub returns : goal.returns
-returns c = ((omega arith, simp length-take (omega arith)), omega arith, c.least.ensures.2)

@@ -1,0 +1,105 @@
+// The lines of an input: a line that comes in byte by byte, and a reader that is run to its end.
+ghost use Rattle.std.specs.Prelude.{◌≡◌, ◌≤◌, ◌==◌, take, [], ◌∷◌, ◌++◌};
+
+use std::io;
+use std::io::Read;
+
+// As many bytes as are read at once.
+const CHUNK: usize = 65536;
+
+// A line that comes in byte by byte behind a front that each line has. What its room does not hold is not kept.
+#[derive(Drop)]
+pub struct Line<const ROOM: usize> {
+    bytes: [u8; ROOM],
+    front: usize,
+    length: usize,
+    ghost within: { (front ≤ length) × (length ≤ ROOM) },
+}
+
+impl<const ROOM: usize> Line<ROOM> {
+    // An empty line behind the front, as far as there is room for that.
+    pub fn behind(front: &[u8]) -> Line<ROOM>
+        ensures { take result.length result.bytes ≡ take ROOM front.now }
+    {
+        let length = front.len().min(ROOM);
+        let mut bytes = [0u8; ROOM];
+        bytes[..length].copy_from_slice(&front[..length]);
+        Line {
+            bytes,
+            front: length,
+            length,
+        }
+    }
+
+    // One byte more.
+    pub fn push(&mut self, byte: u8)
+        ensures { take self.new.length self.new.bytes ≡ take ROOM (take self.old.length self.old.bytes ++ (byte ∷ [])) }
+    {
+        if self.length < ROOM {
+            self.bytes[self.length] = byte;
+            self.length += 1;
+        }
+    }
+
+    pub fn as_slice(&self) -> &[u8]
+        ensures { result.now ≡ take self.now.length self.now.bytes }
+    {
+        &self.bytes[..self.length]
+    }
+
+    pub fn clear(&mut self)
+        ensures { take self.new.length self.new.bytes ≡ take self.old.front (take self.old.length self.old.bytes) }
+    {
+        self.length = self.front;
+    }
+
+    pub fn is_empty(&self) -> bool
+        ensures { result ≡ (self.now.length == self.now.front) }
+    {
+        self.length == self.front
+    }
+}
+
+// Each line that ends among the bytes is answered.
+fn take_in<const ROOM: usize, F: FnMut(&[u8]) -> io::Result<()>>(
+    line: &mut Line<ROOM>,
+    input: &[u8],
+    answer: &mut F,
+) -> io::Result<()>
+    requires { F.IsAlwaysCallable answer.old }
+    ensures { F.IsAlwaysCallable answer.new }
+{
+    for byte in input {
+        if *byte == b'\n' {
+            answer(line.as_slice())?;
+            line.clear();
+        } else {
+            line.push(*byte);
+        }
+    }
+    Ok(())
+}
+
+// Each line of the input is answered, the last one too where no newline ends it.
+pub fn each<const ROOM: usize, R: Read, F: FnMut(&[u8]) -> io::Result<()> + Drop>(
+    reader: &mut R,
+    line: &mut Line<ROOM>,
+    mut answer: F,
+) -> io::Result<()>
+    requires { F.IsAlwaysCallable answer }
+{
+    let mut input = [0u8; CHUNK];
+    // A proved loop has to end, and nothing says that the input does: no run uses these turns up.
+    for _turn in 0..u64::MAX {
+        let count = reader.read(&mut input)?;
+        if count == 0 {
+            break;
+        }
+        take_in(line, &input[..count], &mut answer)?;
+    }
+    if !line.is_empty() {
+        answer(line.as_slice())?;
+        line.clear();
+    }
+    Ok(())
+}
