@@ -1,11 +1,9 @@
 -- `lines::fit::narrow` meets its contract: the numbers that are left, stored from the place reached on, are all of them stored from the
 -- start. Assumes nothing.
-use Prim.Native.Nat.{◌+◌, ◌<◌, ◌≤◌}
-use mathlib.Core.Bool.{true, false}
-use mathlib.Core.Path.{◌≡◌, refl, sym, ◌∙◌}
+use Prim.Native.Nat.{◌+◌}
+use mathlib.Core.Path.{◌∙◌}
 use native.Mathlib.Omega.{arith}
-use lib.ListN.{length, length-set}
-use Rattle.lines.specs.Over.{all_below}
+use lib.ListN.{length-set}
 use Rattle.lines.proofs.Below.{all_of, each_below, no_room, too_wide, all_fit}
 use Rattle.lines.proofs.Stores.{stored, finished}
 use Rattle.lines.proofs.fit.narrow.Goals as goal

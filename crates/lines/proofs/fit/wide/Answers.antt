@@ -3,7 +3,7 @@ use Prim.Native.Nat.{◌+◌, ◌<◌}
 use mathlib.Core.Path.{◌≡◌, refl, ◌∙◌}
 use native.Mathlib.Nat.{add_assoc, add-zero}
 use native.Mathlib.Omega.{arith}
-use lib.ListN.{length, get_or, length-set, length-take}
+use lib.ListN.{get_or, length-set, length-take}
 use Rattle.std.proofs.Common.{get_or-take}
 use Rattle.lines.specs.Over.{behind}
 use Rattle.lines.proofs.Stores.{stored, finished}
