@@ -14,7 +14,7 @@ use Rattle.table.specs.Numbers.{WORDS, ROLES}
 use Rattle.table.specs.Rows.{row}
 use Rattle.table.specs.Rules.{Rule, kind, field, link, named, twice, unbound, unguarded, rules, number, breaks, words_broken, roles_broken, kind_broken, field_broken, link_broken, named_broken, twice_broken, unbound_broken, unguarded_broken}
 use Rattle.table.specs.Check.{says, accepted, refused, tested, check_of}
-use Rattle.table.specs.declared.Verdict.{Verdict}
+use Rattle.table.specs.Check.{Verdict}
 use Rattle.table.proofs.Sizes.{Sized, sizes_pass}
 
 -- a table that keeps every rule of the check

@@ -13,7 +13,7 @@ use Rattle.table.specs.Limits.{Limits}
 use Rattle.table.specs.Numbers.{WORDS, ROLES}
 use Rattle.table.specs.Rules.{words_broken, roles_broken}
 use Rattle.table.specs.Check.{says, accepted, refused, sized}
-use Rattle.table.specs.declared.Verdict.{Verdict}
+use Rattle.table.specs.Check.{Verdict}
 use Rattle.table.proofs.Tests.{neither}
 
 -- what each of the two tests answers

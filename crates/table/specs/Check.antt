@@ -5,7 +5,11 @@ use Rattle.words.specs.Rows.{rows_of}
 use Rattle.table.specs.Limits.{Limits}
 use Rattle.table.specs.Numbers.{ACCEPTED, WORDS, ROLES}
 use Rattle.table.specs.Rules.{Rule, rules, number, breaks, words_broken, roles_broken}
-use Rattle.table.specs.declared.Verdict.{Verdict}
+
+-- what a check or an opening says: the number, and the row or role that it names
+pub record Verdict : Type 0 where
+  pub number : ℕ
+  pub place : ℕ
 
 abbrev pub says : ℕ → ℕ → Verdict
 says n at = record { number = n; place = at }

@@ -4,5 +4,6 @@ pub mod Rows
 pub mod Above
 pub mod Rules
 pub mod Check
+pub mod Refusals
 pub mod Tree
 pub mod mirror

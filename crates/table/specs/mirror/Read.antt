@@ -1,7 +1,12 @@
--- The four words of a row, as they are read. Assumes nothing.
-use Rattle.std.specs.Prelude.{ℕ, List}
-use Rattle.words.specs.Rows.{word}
-use Rattle.table.specs.declared.Row.{Row}
+-- What a row that was read says. Assumes nothing.
+use Rattle.table.specs.Rows.{Row, End, Exchange, Arm, Loop, Back, Other}
+use Rattle.table.specs.declared.row.Row as declared
+use Rattle.table.specs.declared.row.Row.TheVariants as read
 
-unfoldable pub four_words : List ℕ → ℕ → Row
-four_words t i = record { kind = word t i 0; first = word t i 1; second = word t i 2; third = word t i 3 }
+abbrev pub said : declared.Row → Row
+said (read.End a b c) = End a b c
+said (read.Exchange sender receiver arms) = Exchange sender receiver arms
+said (read.Arm label then next) = Arm label then next
+said (read.Loop body a b) = Loop body a b
+said (read.Back depth a b) = Back depth a b
+said read.Other = Other

@@ -1,0 +1,140 @@
+// A row of a table, and the rules of its own words.
+ghost use Rattle.std.specs.Prelude.{◌≡◌, get_or};
+ghost use Rattle.table.specs.Limits.{base};
+ghost use Rattle.table.specs.Rows.{row as row_at, row_of};
+ghost use Rattle.table.specs.Rules.{kind_broken, field_broken, to_arm, to_other, link_broken};
+ghost use Rattle.table.specs.mirror.Names.{near_link, far_link};
+ghost use Rattle.table.specs.mirror.Read.{said};
+
+use crate::Table;
+
+// A row: its first word decides what the other three hold. The words that a kind does not use are kept, since a rule asks for 0 there.
+#[derive(Clone, Copy, Debug, PartialEq, Eq)]
+pub enum Row {
+    End(usize, usize, usize),
+    // Arms are linked from the first; no next arm is 0.
+    Exchange {
+        sender: usize,
+        receiver: usize,
+        arms: usize,
+    },
+    Arm {
+        label: usize,
+        then: usize,
+        next: usize,
+    },
+    Loop(usize, usize, usize),
+    Back(usize, usize, usize),
+    // No row has such a kind.
+    Other,
+}
+
+impl From<[u16; 4]> for Row {
+    ghost from_gives = { λ four row. said row ≡ row_of (get_or four 0 0) (get_or four 1 0) (get_or four 2 0) (get_or four 3 0) };
+
+    fn from(four: [u16; 4]) -> Row {
+        let [kind, first, second, third] = four;
+        let first = usize::from(first);
+        let second = usize::from(second);
+        let third = usize::from(third);
+        match kind {
+            0 => Row::End(first, second, third),
+            1 => Row::Exchange {
+                sender: first,
+                receiver: second,
+                arms: third,
+            },
+            2 => Row::Arm {
+                label: first,
+                then: second,
+                next: third,
+            },
+            3 => Row::Loop(first, second, third),
+            4 => Row::Back(first, second, third),
+            _ => Row::Other,
+        }
+    }
+}
+
+// A row as it is read; past the end its words are 0.
+pub fn read(words: &[u16], row: usize) -> Row
+    ensures { said result ≡ row_at words.now row }
+{
+    Row::from(words::row(words, row))
+}
+
+impl Row {
+    // A kind that no row has.
+    pub fn kind_broken(self) -> bool
+        ensures { result ≡ kind_broken (said self) }
+    {
+        self == Row::Other
+    }
+
+    // An unused word not 0, a role not in range, sender equal to receiver, label over the limit.
+    pub fn field_broken(self, roles: usize) -> bool
+        ensures { result ≡ field_broken base roles (said self) }
+    {
+        match self {
+            Row::End(a, b, c) => !(a == 0 && b == 0 && c == 0),
+            Row::Exchange {
+                sender,
+                receiver,
+                ..
+            } => { !(sender < roles && receiver < roles && sender != receiver) }
+            Row::Arm { label, .. } => !(label < Table::LABELS),
+            Row::Loop(_, a, b) | Row::Back(_, a, b) => !(a == 0 && b == 0),
+            Row::Other => false,
+        }
+    }
+
+    // The row that this one leads to: first arm, continuation or body; 0 for none.
+    pub fn near_link(self) -> usize
+        ensures { result ≡ near_link (said self) }
+    {
+        match self {
+            Row::Exchange { arms, .. } => arms,
+            Row::Arm { then, .. } => then,
+            Row::Loop(body, _, _) => body,
+            _ => 0,
+        }
+    }
+
+    // An Arm's next arm; 0 for none.
+    pub fn far_link(self) -> usize
+        ensures { result ≡ far_link (said self) }
+    {
+        match self {
+            Row::Arm { next, .. } => next,
+            _ => 0,
+        }
+    }
+}
+
+// A link from a row goes to a higher row inside the table, and that row is an Arm.
+fn to_arm(words: &[u16], row: usize, to: usize) -> bool
+    ensures { result ≡ to_arm words.now row to }
+{
+    row < to && to < words.len() / 4 && matches!(read(words, to), Row::Arm { .. })
+}
+
+// The same to a row that is no Arm.
+fn to_other(words: &[u16], row: usize, to: usize) -> bool
+    ensures { result ≡ to_other words.now row to }
+{
+    row < to && to < words.len() / 4 && !matches!(read(words, to), Row::Arm { .. })
+}
+
+// A link broken, or row 0 an Arm. Only a next arm may be 0, for none.
+pub fn link_broken(words: &[u16], row: usize) -> bool
+    ensures { result ≡ link_broken words.now row (row_at words.now row) }
+{
+    match read(words, row) {
+        Row::Exchange { arms, .. } => !to_arm(words, row, arms),
+        Row::Arm { then, next, .. } => {
+            row == 0 || !(to_other(words, row, then) && (next == 0 || to_arm(words, row, next)))
+        }
+        Row::Loop(body, _, _) => !to_other(words, row, body),
+        _ => false,
+    }
+}
