@@ -3,16 +3,19 @@ use Prim.Native.Nat.{ℕ, suc, ◌+◌, ◌≤◌, ◌<◌}
 use mathlib.Core.Bool.{Bool, true, false, cond}
 use mathlib.Core.List.{List, ◌∷◌}
 use mathlib.Core.Path.{◌≡◌, refl, sym, ◌∙◌, ap}
-use lib.ListN.{length, get_or, set, replicate, length-set, length-replicate}
+use lib.LanesLaws.{map-replicate}
+use lib.ListN.{length, get_or, get_or-map, set, replicate, length-set, length-replicate}
 use lib.Seq.{get_or-set_same, get_or-set_other}
 use native.Mathlib.Decide.{ℕ_discrete}
 use native.Mathlib.Omega.{arith}
+use Rattle.std.proofs.lemmas.List.{map-set}
 use Rattle.words.specs.Rows.{rows_of}
 use Rattle.words.specs.Below.{one}
 use Rattle.table.specs.Rows.{row, is_loop}
 use Rattle.table.specs.Above.{namer, above, loops}
 use Rattle.table.specs.mirror.Names.{near_loops, Rising}
-use Rattle.rules.specs.mirror.Names.{places, Around}
+use Rattle.rules.specs.declared.Nest.{Nest}
+use Rattle.rules.specs.mirror.Names.{places, around_of, near_of, Around}
 use Rattle.words.proofs.Zeros.{zeros}
 use Rattle.table.proofs.Walk.{over_zero, above_more, loops_more, near_more}
 
@@ -52,11 +55,15 @@ column_step t f l n x h most e c = record {
 abbrev pub Columns : List ℕ → List ℕ → List ℕ → ℕ → Type 0
 Columns t around near n = Column t (λ i. loops t (above t i)) around n × Column t (λ i. near_loops t (above t i)) near n
 
-pub columns_start : (t : List ℕ) → Columns t (replicate places 0) (replicate places 0) 1
+columns_start : (t : List ℕ) → Columns t (replicate places 0) (replicate places 0) 1
 unfolding loops near_loops
 columns_start t =
     let z = over_zero (rows_of t) t in
     (column_start t (λ i. loops t (above t i)) (rw z), column_start t (λ i. near_loops t (above t i)) (rw z))
+
+-- the same of the places as the loop has them
+pub nests_start : (t : List ℕ) → Columns t (around_of (replicate places (record { around = 0; near = 0 }))) (near_of (replicate places (record { around = 0; near = 0 }))) 1
+nests_start t = rw (map-replicate (λ (n : Nest). n.around) places (record { around = 0; near = 0 }), map-replicate (λ (n : Nest). n.near) places (record { around = 0; near = 0 })) (columns_start t)
 
 module _ (t around near : List ℕ) (n p : ℕ) (il : Bool) (inside : n < rows_of t) (small : rows_of t < places) (some : 0 < n) (ep : p ≡ namer t n)
     (ei : il ≡ is_loop (row t p)) (c : Columns t around near n) where
@@ -85,13 +92,24 @@ module _ (t around near : List ℕ) (n p : ℕ) (il : Bool) (inside : n < rows_o
       more false x = refl
 
   -- what is stored for row n, as the loop has it
-  pub columns_step : (around' near' : List ℕ)
+  columns_step : (around' near' : List ℕ)
       → (around' ≡ set around n (get_or around p 0 + one il)) × (near' ≡ set near n (cond il (get_or near p 0 + 1) 0))
       → Columns t around' near' (n + 1)
   columns_step around' near' e = rw (e.0, e.1) (
     column_step t (λ i. loops t (above t i)) around n (get_or around p 0 + one il) (omega arith) (stored_most il (get_or around p 0) (c.0.few p)).0 around_is c.0,
     column_step t (λ i. near_loops t (above t i)) near n (cond il (get_or near p 0 + 1) 0) (omega arith) (stored_most il (get_or near p 0) (c.1.few p)).1 near_is c.1,
   )
+
+pub nests_step : (t : List ℕ) (nests : List Nest) (n p : ℕ) (il : Bool) (new : Nest) → n < rows_of t → rows_of t < places → 0 < n → p ≡ namer t n
+    → il ≡ is_loop (row t p)
+    → (new.around ≡ (get_or nests p (record { around = 0; near = 0 })).around + one il) × (new.near ≡ cond il ((get_or nests p (record { around = 0; near = 0 })).near + 1) 0)
+    → Columns t (around_of nests) (near_of nests) n → Columns t (around_of (set nests n new)) (near_of (set nests n new)) (n + 1)
+nests_step t nests n p il new inside small some ep ei e c =
+    columns_step t (around_of nests) (near_of nests) n p il inside small some ep ei c (around_of (set nests n new)) (near_of (set nests n new))
+    (
+      rw (map-set (λ (n : Nest). n.around) nests n new, e.0, get_or-map (λ (n : Nest). n.around) nests p (record { around = 0; near = 0 })) refl,
+      rw (map-set (λ (n : Nest). n.near) nests n new, e.1, get_or-map (λ (n : Nest). n.near) nests p (record { around = 0; near = 0 })) refl,
+    )
 
 pub columns_end : (t around near : List ℕ) (n : ℕ) → rows_of t ≤ n → Columns t around near n → Around t around near
 columns_end t around near n h c up i l = (c.0.has up i (omega arith) l, c.1.has up i (omega arith) l)

@@ -1,92 +1,113 @@
--- The least over all rows of what a rule finds at each is the lowest row that breaks it. Assumes nothing.
-use Prim.Native.Nat.{ℕ, zero, suc, ◌≤◌, ◌<◌}
-use mathlib.Core.Bool.{Bool, true, false, cond, true≢false}
-use mathlib.Core.Logic.{⊎_elim}
-use mathlib.Core.Path.{◌≡◌, refl, sym, ◌∙◌}
-use lib.Dec.{ltb}
-use native.Mathlib.Nat.{eq-or-lt_of_le, le_of_suc-le-suc}
-use native.Mathlib.Decide.{dec_lt}
+-- The lowest row that breaks a rule: found by a loop over the rows, or as the least of what is found at each row. Assumes nothing.
+use Prim.Native.Nat.{ℕ, ◌+◌, ◌≤◌, ◌<◌}
+use mathlib.Core.Bool.{Bool, true, false, true≢false}
+use mathlib.Core.Path.{◌≡◌, refl, sym, ◌∙◌, ap}
+use mathlib.Core.Logic.{◌⊎◌, inl, inr}
+use native.Mathlib.Decide.{dec_lt, ℕ_discrete}
+use native.Mathlib.Nat.{min-eq_left, min-eq_right}
 use native.Mathlib.Omega.{arith}
-use borrow.Author.Tests.{ltb-true, ltb-false}
+use borrow.Author.Tests.{lt-ltb, le-ltb}
+use Rattle.std.specs.Prelude.{Option, Some, None, min}
+use Rattle.std.specs.Option.{MatchOption, is_some, unwrap_or}
 use Rattle.words.specs.Below.{lowest}
-use Rattle.words.proofs.Below.{Lowest, found, nowhere, lowest_is}
-use Rattle.rules.specs.mirror.Blame.{least}
+use Rattle.words.proofs.Below.{Lowest, found, nowhere, lowest_is, lowest_at, lowest_none}
+use Rattle.table.specs.Check.{says, accepted, refused_at}
+use Rattle.rules.specs.mirror.Blame.{Refuses, IsLeast}
 
-min_le : (a k : ℕ) (b : Bool) → ltb a k ≡ b → (cond b a k ≤ a) × (cond b a k ≤ k)
-min_le a k true e = let l = ltb-true a k e in (omega arith, omega arith)
-min_le a k false e = let l = ltb-false a k e in (omega arith, omega arith)
+-- ---- a rule whose test is asked of each row
 
-min_ge : (a k i : ℕ) (b : Bool) → i ≤ a → i ≤ k → i ≤ cond b a k
-min_ge a k i true h l = h
-min_ge a k i false h l = l
+pub refused_here : (n m i : ℕ) (answers : ℕ → Bool → Type 0) → i < m → ((k : ℕ) → k < i → answers k false) → answers i true
+    → Refuses n m answers (says n i)
+refused_here n m i answers l before here p is =
+    rw (lowest_at p m i l (λ k h. sym (is k false (omega arith) (before k h))) (sym (is i true l here)), lt-ltb i m l) refl
 
-least_le : (g : ℕ → ℕ) (n z e : ℕ) → e < n → least g n z ≤ g e
-unfolding least
-least_le g zero z e l = absurd (omega arith)
-least_le g (suc n) z e l =
-    let m = min_le (g n) (least g n z) (ltb (g n) (least g n z)) refl in
-    ⊎_elim
-    (λ q. rw q m.0)
-    (λ q. let h = least_le g n z e q in omega arith)
-    (eq-or-lt_of_le (le_of_suc-le-suc l))
+pub refused_nowhere : (n m : ℕ) (answers : ℕ → Bool → Type 0) → ((k : ℕ) → k < m → answers k false) → Refuses n m answers accepted
+refused_nowhere n m answers none p is =
+    rw (lowest_none p m (λ k h. sym (is k false h (none k h))), le-ltb m m (omega arith)) refl
 
-least_ge : (g : ℕ → ℕ) (n z i : ℕ) → i ≤ z → ((e : ℕ) → e < n → i ≤ g e) → i ≤ least g n z
-unfolding least
-least_ge g zero z i l h = l
-least_ge g (suc n) z i l h =
-    min_ge (g n) (least g n z) i (ltb (g n) (least g n z)) (h n (omega arith)) (least_ge g n z i l (λ e m. h e (omega arith)))
+-- ---- a rule that finds at a row another row that breaks it
 
-least_top : (g : ℕ → ℕ) (n z : ℕ) → least g n z ≤ z
-unfolding least
-least_top g zero z = omega arith
-least_top g (suc n) z =
-    let m = min_le (g n) (least g n z) (ltb (g n) (least g n z)) refl in
-    let h = least_top g n z in
-    omega arith
+-- what is found is a row that the test holds of
+pub data Sound (p : ℕ → Bool) (n : ℕ) : Option ℕ → Type 0 where
+  none : Sound p n None
+  some : {i : ℕ} → i < n → p i ≡ true → Sound p n (Some i)
 
--- what is found is a row that the test holds of, or n for none
-pub data Sound (p : ℕ → Bool) (n : ℕ) : ℕ → Type 0 where
-  none : Sound p n n
-  some : {i : ℕ} → i < n → p i ≡ true → Sound p n i
+sound_at : {p : ℕ → Bool} {n : ℕ} {o : Option ℕ} (k : ℕ) → Sound p n o → o ≡ Some k → (k < n) × (p k ≡ true)
+sound_at k none e = absurd (true≢false (ap is_some (sym e)))
+sound_at {p = p} {n = n} k (some {i = i} l h) e = let q : i ≡ k = ap (λ o. unwrap_or o 0) e in (rw q at l, rw q at h)
 
 -- the lowest row that the test holds of is found at some row
-pub data Finds (g : ℕ → ℕ) (n i : ℕ) : Type 0 where
-  finds : (e : ℕ) → e < n → g e ≡ i → Finds g n i
+pub data Finds (g : ℕ → Option ℕ) (n i : ℕ) : Type 0 where
+  finds : (e : ℕ) → e < n → g e ≡ Some i → Finds g n i
 
-sound_ge : {p : ℕ → Bool} {n j : ℕ} (i : ℕ) → i < n → ((k : ℕ) → k < i → p k ≡ false) → Sound p n j → i ≤ j
-sound_ge {n = n} i l h none = omega arith
-sound_ge {p} i l h (some {i = j} m e) = go (dec_lt j i)
+module _ (n m : ℕ) (p : ℕ → Bool) (g : ℕ → Option ℕ) (sound : (e : ℕ) → e < m → Sound p m (g e))
+    (complete : (i : ℕ) → i < m → p i ≡ true → ((k : ℕ) → k < i → p k ≡ false) → Finds g m i) where
+  -- the least that is found is the lowest row that breaks the rule
+  least_some : (k : ℕ) → IsLeast g m (Some k) → {i : ℕ} → Lowest p m i → (k < m) × (i ≡ k)
+  least_some k ((e, l, q), low) (found {i = i} il ie before) = go (sound_at k (sound e l) q) (complete i il ie before) (dec_lt k i)
+    where
+      go : (k < m) × (p k ≡ true) → Finds g m i → Dec (k < i) → (k < m) × (i ≡ k)
+      go (h, t) (finds d dl dq) (yes lt) = absurd (true≢false (sym t ∙ before k lt))
+      go (h, t) (finds d dl dq) (no ge) = let a = low d i dl dq in (h, omega arith)
+  least_some k ((e, l, q), low) (nowhere gone) =
+      let (h, t) = sound_at k (sound e l) q in absurd (true≢false (sym t ∙ gone k h))
+
+  pub least_refused : (k : ℕ) → IsLeast g m (Some k) → says n k ≡ refused_at n p m accepted
+  least_refused k h =
+      let (l, e) = least_some k h (lowest_is p m) in
+      rw (e, lt-ltb k m l) refl
+
+  none_found : IsLeast g m None → {i : ℕ} → Lowest p m i → i ≡ m
+  none_found gone (found {i = i} l e before) = go (complete i l e before)
+    where
+      go : Finds g m i → i ≡ m
+      go (finds d dl dq) = absurd (true≢false (ap is_some (sym dq ∙ gone d dl)))
+  none_found gone (nowhere h) = refl
+
+  pub least_accepted : IsLeast g m None → accepted ≡ refused_at n p m accepted
+  least_accepted gone = rw (none_found gone (lowest_is p m), le-ltb m m (omega arith)) refl
+
+-- ---- the least, row by row
+
+pub least_start : (g : ℕ → Option ℕ) → IsLeast g 0 None
+least_start g e l = absurd (omega arith)
+
+pub least_next : (g : ℕ → Option ℕ) (n : ℕ) (o : Option ℕ) → g n ≡ None → IsLeast g n o → IsLeast g (n + 1) o
+least_next g n None z h = λ e l. go e l (ℕ_discrete e n)
   where
-    go : Dec (j < i) → i ≤ j
-    go (yes q) = absurd (true≢false (sym e ∙ h j q))
-    go (no q) = omega arith
-
-sound_none : {p : ℕ → Bool} {n j : ℕ} → ((k : ℕ) → k < n → p k ≡ false) → Sound p n j → n ≤ j
-sound_none {n = n} h none = omega arith
-sound_none h (some {i = j} m e) = absurd (true≢false (sym e ∙ h j m))
-
-module _ (p : ℕ → Bool) (g : ℕ → ℕ) (n : ℕ) (sound : (e : ℕ) → e < n → Sound p n (g e))
-    (complete : (i : ℕ) → i < n → p i ≡ true → ((k : ℕ) → k < i → p k ≡ false) → Finds g n i) where
-  least_found : (i : ℕ) → i < n → ((k : ℕ) → k < i → p k ≡ false) → Finds g n i → least g n n ≡ i
-  least_found i l h (finds e m q) =
-      let a = least_le g n n e m in
-      let b = least_ge g n n i (omega arith) (λ d k. sound_ge i l h (sound d k)) in
-      omega arith
-
-  by_lowest : {i : ℕ} → Lowest p n i → least g n n ≡ i
-  by_lowest (found {i = i} l e h) = least_found i l h (complete i l e h)
-  by_lowest (nowhere h) =
-      let a = least_ge g n n n (omega arith) (λ d k. sound_none h (sound d k)) in
-      let b = least_top g n n in
-      omega arith
-
-  pub least_lowest : least g n n ≡ lowest p n
-  least_lowest = by_lowest (lowest_is p n)
-
--- where a row answers for itself
-pub own : (p : ℕ → Bool) (n : ℕ) → least (λ i. cond (p i) i n) n n ≡ lowest p n
-own p n = least_lowest p (λ i. cond (p i) i n) n (λ e l. sound e l (p e) refl) (λ i l e h. finds i l (rw e))
+    go : (e : ℕ) → e < n + 1 → Dec (e ≡ n) → g e ≡ None
+    go e l (yes q) = rw q z
+    go e l (no q) = h e (omega arith)
+least_next g n (Some k) z ((e, l, q), low) = ((e, omega arith, q), λ d i m r. go d i m r (ℕ_discrete d n))
   where
-    sound : (e : ℕ) → e < n → (b : Bool) → p e ≡ b → Sound p n (cond b e n)
-    sound e l true q = some l q
-    sound e l false q = none
+    go : (d i : ℕ) → d < n + 1 → g d ≡ Some i → Dec (d ≡ n) → k ≤ i
+    go d i m r (yes s) = absurd (true≢false (ap is_some (sym r ∙ (ap g s ∙ z))))
+    go d i m r (no s) = low d i (omega arith) r
+
+least_first : (g : ℕ → Option ℕ) (n a : ℕ) → g n ≡ Some a → IsLeast g n None → IsLeast g (n + 1) (Some a)
+least_first g n a s h = ((n, omega arith, s), λ d i m r. go d i m r (ℕ_discrete d n))
+  where
+    go : (d i : ℕ) → d < n + 1 → g d ≡ Some i → Dec (d ≡ n) → a ≤ i
+    go d i m r (yes q) = let e : a ≡ i = ap (λ o. unwrap_or o 0) (sym s ∙ (ap g (sym q) ∙ r)) in omega arith
+    go d i m r (no q) = absurd (true≢false (ap is_some (sym r ∙ h d (omega arith))))
+
+-- the lesser of what was found before and what is found now
+least_more : (g : ℕ → Option ℕ) (n a k r : ℕ) → g n ≡ Some a → IsLeast g n (Some k) → r ≡ min k a → IsLeast g (n + 1) (Some r)
+least_more g n a k r s ((e, l, q), low) f = go (dec_lt a k)
+  where
+    below : r ≤ a → r ≤ k → (d i : ℕ) → d < n + 1 → g d ≡ Some i → Dec (d ≡ n) → r ≤ i
+    below ra rk d i m x (yes y) = let z : a ≡ i = ap (λ o. unwrap_or o 0) (sym s ∙ (ap g (sym y) ∙ x)) in omega arith
+    below ra rk d i m x (no y) = let z = low d i (omega arith) x in omega arith
+
+    go : Dec (a < k) → IsLeast g (n + 1) (Some r)
+    go (yes h) =
+        let u : r ≡ a = f ∙ min-eq_right (omega arith) in
+        ((n, omega arith, rw u s), λ d i m x. below (omega arith) (omega arith) d i m x (ℕ_discrete d n))
+    go (no h) =
+        let u : r ≡ k = f ∙ min-eq_left (omega arith) in
+        ((e, omega arith, rw u q), λ d i m x. below (omega arith) (omega arith) d i m x (ℕ_discrete d n))
+
+pub least_with : (g : ℕ → Option ℕ) (n a r : ℕ) (o : Option ℕ) (P : ℕ → Type 0) → g n ≡ Some a → IsLeast g n o → MatchOption o (r ≡ a) P
+    → ((k : ℕ) → P k → r ≡ min k a) → IsLeast g (n + 1) (Some r)
+least_with g n a r None P s h e f = rw e (least_first g n a s h)
+least_with g n a r (Some k) P s h e f = least_more g n a k r s h (f k e)

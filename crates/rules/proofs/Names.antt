@@ -1,10 +1,11 @@
 -- Laws of who names each row: the two lists that one pass fills, rows taken from the last to the first. Assumes nothing.
 use Prim.Native.Nat.{ℕ, zero, suc, ◌+◌, ◌*◌, ◌-◌, ◌≤◌, ◌<◌}
-use mathlib.Core.Bool.{Bool, true, false, cond, not, ◌&&◌, ◌||◌}
+use mathlib.Core.Bool.{Bool, true, false, cond, ◌||◌}
 use mathlib.Core.List.{List}
 use mathlib.Core.Logic.{◌≢◌}
 use mathlib.Core.Path.{◌≡◌, refl, sym, ◌∙◌}
 use lib.Dec.{ltb, eqb}
+use lib.LanesLaws.{map-replicate}
 use lib.ListN.{length, get_or, set, replicate, length-set, length-replicate, get_or-replicate, get_or-eq_default}
 use lib.Seq.{get_or-set_same, get_or-set_other}
 use native.Mathlib.Decide.{ℕ_discrete, dec_lt}
@@ -17,10 +18,10 @@ use Rattle.words.proofs.Zeros.{zeros}
 use Rattle.table.specs.Limits.{base}
 use Rattle.table.specs.Rows.{row, links}
 use Rattle.table.specs.Above.{times, times_named, namer}
-use Rattle.table.specs.Rules.{named_broken}
 use Rattle.table.specs.mirror.Names.{near_link, far_link}
 use Rattle.table.proofs.Links.{times_links}
-use Rattle.rules.specs.mirror.Names.{places, placed, Namers, Counts}
+use Rattle.rules.specs.declared.Name.{Name}
+use Rattle.rules.specs.mirror.Names.{places, placed, named_by, times_of, Namers, Counts}
 
 -- ---- one store
 
@@ -85,7 +86,7 @@ at_end : (b : Bool) (k n : ℕ) → ltb k n ≡ b → k ≤ n → cond b k n ≡
 at_end true k n e h = refl
 at_end false k n e h = let l = ltb-false k n e in omega arith
 
-pub filling_start : (t : List ℕ) → rows_of t ≤ base.rows → (n : ℕ) → n ≡ rows_of t → Filling t (replicate places n) (replicate places 0) (rows_of t)
+filling_start : (t : List ℕ) → rows_of t ≤ base.rows → (n : ℕ) → n ≡ rows_of t → Filling t (replicate places n) (replicate places 0) (rows_of t)
 filling_start t h n e = record {
   by_length = length-replicate places n;
   count_length = length-replicate {A = ℕ} places 0;
@@ -96,6 +97,12 @@ filling_start t h n e = record {
   all = λ i l m. rw (zeros places i) (omega arith);
   few = λ i. rw (zeros places i) (omega arith);
 }
+
+-- the same of the places as the loop has them
+pub names_start : (t : List ℕ) → rows_of t ≤ base.rows → Filling t (named_by (replicate places (record { by = rows_of t; times = 0 }))) (times_of (replicate places (record { by = rows_of t; times = 0 }))) (rows_of t)
+names_start t h =
+    rw (map-replicate (λ (n : Name). n.by) places (record { by = rows_of t; times = 0 }), map-replicate (λ (n : Name). n.times) places (record { by = rows_of t; times = 0 }))
+    (filling_start t h (rows_of t) refl)
 
 ones : (a b : Bool) → ltb 0 (one a + one b) ≡ (a || b)
 ones true true = refl
@@ -155,23 +162,17 @@ module _ (t by count : List ℕ) (p near far : ℕ) (small : rows_of t ≤ base.
   }
 
 -- the same as the loop has it
-pub filling_turn : (t by count by1 count1 by2 count2 : List ℕ) (q near far p : ℕ) → rows_of t ≤ base.rows → 0 < q
-    → near ≡ near_link (row t (q - 1)) → far ≡ far_link (row t (q - 1)) → p ≡ q - 1
-    → (by1 ≡ placed by near p) × (count1 ≡ more count near) → (by2 ≡ placed by1 far p) × (count2 ≡ more count1 far)
+pub filling_turn : (t by count by1 count1 by2 count2 : List ℕ) (q near far : ℕ) → rows_of t ≤ base.rows → 0 < q
+    → near ≡ near_link (row t (q - 1)) → far ≡ far_link (row t (q - 1))
+    → (by1 ≡ placed by near (q - 1)) × (count1 ≡ more count near) → (by2 ≡ placed by1 far (q - 1)) × (count2 ≡ more count1 far)
     → Filling t by count q → Filling t by2 count2 (q - 1)
-filling_turn t by count by1 count1 by2 count2 q near far p small h en ef ep e1 e2 f =
+filling_turn t by count by1 count1 by2 count2 q near far small h en ef e1 e2 f =
     let e : q ≡ suc (q - 1) = omega arith in
-    rw (e2.0, e2.1, e1.0, e1.1, ep) (filling_step t by count (q - 1) near far small en ef (rw e at f))
+    rw (e2.0, e2.1, e1.0, e1.1) (filling_step t by count (q - 1) near far small en ef (rw e at f))
 
 pub filling_end : (t by count : List ℕ) → Filling t by count 0 → (Namers t by) × (Counts t count)
 unfolding lowest sum
 filling_end t by count f = (f.low, λ i l m. let e = f.all i l m in omega arith)
-
--- ---- rule 7 read off the counts
-
-pub named_is : (t : List ℕ) (i m : ℕ) → (0 < i → m ≡ times_named t i) → (not (eqb i 0) && not (eqb m 1)) ≡ named_broken t i
-named_is t zero m h = refl
-named_is t (suc i) m h = rw (h (omega arith))
 
 pub namer_le : (t : List ℕ) (i : ℕ) → namer t i ≤ rows_of t
 namer_le t i = lowest_le _ (rows_of t)

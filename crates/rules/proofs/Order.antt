@@ -1,128 +1,108 @@
--- Rules 4 to 10 in order: what one turn of the loop over them finds, and what is then known. Assumes nothing.
-use Prim.Native.Nat.{ℕ, ◌+◌, ◌≤◌, ◌<◌}
-use mathlib.Core.Bool.{Bool, false}
+-- Rules 4 to 10 in order: what the answer of one of them says of all. Assumes nothing.
+use Prim.Native.Nat.{ℕ, zero, suc, ◌≤◌, ◌<◌}
+use mathlib.Core.Bool.{Bool, true, false, cond, true≢false}
 use mathlib.Core.List.{List, [], ◌∷◌}
-use mathlib.Core.Logic.{⊎_elim}
 use mathlib.Core.Path.{◌≡◌, refl, sym, ◌∙◌, ap}
-use native.Mathlib.Nat.{eq-or-lt_of_le}
+use lib.Dec.{ltb}
 use native.Mathlib.Omega.{arith}
 use borrow.Author.Tests.{lt-ltb, le-ltb}
+use Rattle.std.specs.Prelude.{Some, None}
 use Rattle.words.specs.Rows.{rows_of}
 use Rattle.words.specs.Below.{lowest}
 use Rattle.words.proofs.Below.{Lowest, found, nowhere, lowest_is}
 use Rattle.table.specs.Limits.{base}
-use Rattle.table.specs.Numbers.{KIND, UNBOUND, UNGUARDED}
-use Rattle.table.specs.Rules.{Rule, kind, field, link, named, twice, unbound, unguarded, rules, number, breaks}
-use Rattle.table.specs.Check.{says, accepted, tested}
-use Rattle.rules.specs.mirror.Blame.{rule_of, blames, least}
+use Rattle.table.specs.Numbers.{TWICE}
+use Rattle.table.specs.Rows.{row}
+use Rattle.table.specs.Rules.{Rule, kind, field, link, named, twice, unbound, unguarded, number, breaks, twice_broken}
+use Rattle.table.specs.Check.{Verdict, says, accepted, refused_at, tested}
+use Rattle.table.specs.Refusals.{number_of}
+use Rattle.table.specs.declared.refusal.Rule.{Rule as Refused}
+use Rattle.table.specs.declared.refusal.Rule.TheVariants.{Words, Roles, Room, Kind, Field, Link, Named, Twice, Unbound, Unguarded, NoPart}
 use Rattle.table.specs.mirror.Names.{Rising}
 use Rattle.table.proofs.Links.{rising}
-use Rattle.rules.proofs.Least.{own}
-use Rattle.rules.proofs.Repeats.{twice_least}
+use Rattle.rules.specs.mirror.Chain.{chain_of}
+use Rattle.rules.specs.mirror.Blame.{IsLeast}
+use Rattle.rules.proofs.Least.{least_refused, least_accepted}
+use Rattle.rules.proofs.Repeats.{twice_sound, twice_complete}
 
--- no row breaks the rule
-abbrev Keeps : List ℕ → ℕ → Rule → Type 0
-Keeps t roles k = (i : ℕ) → i < rows_of t → breaks base t roles k i ≡ false
+-- every refusal has a number of its own
+pub some_number : (r : Refused) → 0 < number_of r
+some_number Words = omega arith
+some_number Roles = omega arith
+some_number Room = omega arith
+some_number Kind = omega arith
+some_number Field = omega arith
+some_number Link = omega arith
+some_number Named = omega arith
+some_number Twice = omega arith
+some_number Unbound = omega arith
+some_number Unguarded = omega arith
+some_number NoPart = omega arith
 
--- what the loop over rows finds is the lowest row that breaks the rule, where the rules before it are kept
-rule_lowest : (t : List ℕ) (roles : ℕ) (k : Rule) → ((j : Rule) → number j < number k → Keeps t roles j)
-    → least (blames t roles k) (rows_of t) (rows_of t) ≡ lowest (breaks base t roles k) (rows_of t)
-unfolding blames breaks
-rule_lowest t roles kind h = own (breaks base t roles kind) (rows_of t)
-rule_lowest t roles field h = own (breaks base t roles field) (rows_of t)
-rule_lowest t roles link h = own (breaks base t roles link) (rows_of t)
-rule_lowest t roles named h = own (breaks base t roles named) (rows_of t)
-rule_lowest t roles twice h = twice_least t (h link (omega arith)) (h named (omega arith))
-rule_lowest t roles unbound h = own (breaks base t roles unbound) (rows_of t)
-rule_lowest t roles unguarded h = own (breaks base t roles unguarded) (rows_of t)
+rule_number : (k : Rule) → 0 < number k
+rule_number kind = omega arith
+rule_number field = omega arith
+rule_number link = omega arith
+rule_number named = omega arith
+rule_number twice = omega arith
+rule_number unbound = omega arith
+rule_number unguarded = omega arith
 
--- each rule by its number
-rule_number : (k : Rule) → (rule_of (number k) ≡ k) × (KIND ≤ number k) × (number k ≤ UNGUARDED)
-rule_number kind = (refl, omega arith, omega arith)
-rule_number field = (refl, omega arith, omega arith)
-rule_number link = (refl, omega arith, omega arith)
-rule_number named = (refl, omega arith, omega arith)
-rule_number twice = (refl, omega arith, omega arith)
-rule_number unbound = (refl, omega arith, omega arith)
-rule_number unguarded = (refl, omega arith, omega arith)
+-- refused: what comes after does not matter
+stopped : (v : Verdict) (n at : ℕ) (b : Bool) (rest : Verdict) → 0 < v.number → v ≡ cond b (says n at) accepted → v ≡ cond b (says n at) rest
+stopped v n at true rest h e = e
+stopped v n at false rest h e = let z : v.number ≡ 0 = ap (λ w. w.number) e in absurd (omega arith)
 
--- these are the rules from number n on
-pub data From : ℕ → List Rule → Type 0 where
-  none : {n : ℕ} → UNGUARDED < n → From n []
-  rule : {n : ℕ} {k : Rule} {ks : List Rule} → number k ≡ n → From (n + 1) ks → From n (k ∷ ks)
+-- accepted: it is what comes after that is the answer
+not_below : (n at : ℕ) (b : Bool) → 0 < n → accepted ≡ cond b (says n at) accepted → b ≡ false
+not_below n at true h e = let z : 0 ≡ n = ap (λ (w : Verdict). w.number) e in absurd (omega arith)
+not_below n at false h e = refl
 
--- before rule n: the rules before it are kept, and the answer is that of the rules from n on
-pub record Turn (t : List ℕ) (roles n : ℕ) : Type 0 where
-  pub left : List Rule
-  pub from : From n left
-  pub kept : (j : Rule) → number j < n → Keeps t roles j
-  pub rest : tested base t roles left accepted ≡ tested base t roles rules accepted
+none_below : {p : ℕ → Bool} {n i : ℕ} → Lowest p n i → ltb i n ≡ false → (k : ℕ) → k < n → p k ≡ false
+none_below {n = n} (found {i = i} l e h) z = absurd (true≢false (sym (lt-ltb i n l) ∙ z))
+none_below (nowhere h) z = h
 
-pub turn_start : (t : List ℕ) (roles : ℕ) → Turn t roles KIND
-turn_start t roles = record {
-  left = rules;
-  from = rule refl (rule refl (rule refl (rule refl (rule refl (rule refl (rule refl (none {n = 11} (omega arith))))))));
-  kept = λ j h. let l = (rule_number j).1 in absurd (omega arith);
-  rest = refl;
-}
+module _ (t : List ℕ) (roles : ℕ) where
+  -- the answer of one rule
+  abbrev pub Says : Rule → Verdict → Type 0
+  Says k v = v ≡ refused_at (number k) (breaks base t roles k) (rows_of t) accepted
 
--- a rule is left
-low : {n : ℕ} {ks : List Rule} → From n ks → n ≤ UNGUARDED → KIND ≤ n
-low (none {n = n} h) l = absurd (omega arith)
-low (rule {k = k} e f) l = let h = (rule_number k).1 in omega arith
+  abbrev Keeps : Rule → Type 0
+  Keeps k = (i : ℕ) → i < rows_of t → breaks base t roles k i ≡ false
 
-pub turn_low : (t : List ℕ) (roles n : ℕ) → Turn t roles n → n ≤ UNGUARDED → KIND ≤ n
-turn_low t roles n turn l = low turn.from l
+  abbrev over : Rule → Bool
+  over k = ltb (lowest (breaks base t roles k) (rows_of t)) (rows_of t)
 
--- past rules 6 and 7 each row but 0 is named by a lower one
-pub turn_rising : (t : List ℕ) (roles n : ℕ) → Turn t roles n → UNBOUND ≤ n → Rising t
-unfolding breaks
-turn_rising t roles n turn h = rising t (turn.kept link (omega arith)) (turn.kept named (omega arith))
-
-none_below : {p : ℕ → Bool} {n i : ℕ} → Lowest p n i → n ≤ i → (k : ℕ) → k < n → p k ≡ false
-none_below {n = n} (found {i = i} l e h) m = absurd (omega arith)
-none_below (nowhere h) m = h
-
-module _ (t : List ℕ) (roles n at : ℕ) (high : n ≤ UNGUARDED) (e : at ≡ least (blames t roles (rule_of n)) (rows_of t) (rows_of t)) where
-  -- what was found, for the rule of that number
-  at_lowest : (k : Rule) → number k ≡ n → ((j : Rule) → number j < n → Keeps t roles j) → lowest (breaks base t roles k) (rows_of t) ≡ at
-  at_lowest k q h =
-      let r : rule_of n ≡ k = ap rule_of (sym q) ∙ (rule_number k).0 in
-      sym (rw r at e ∙ rule_lowest t roles k (λ j l. h j (omega arith)))
-
-  refused : {ks : List Rule} → From n ks → ((j : Rule) → number j < n → Keeps t roles j) → at < rows_of t → says n at ≡ tested base t roles ks accepted
+  pub refused : (k : Rule) (ks : List Rule) (v : Verdict) → 0 < v.number → Says k v → v ≡ tested base t roles (k ∷ ks) accepted
   unfolding tested
-  refused (none h) kept l = absurd (omega arith)
-  refused (rule {k = k} q f) kept l = rw (at_lowest k q kept, lt-ltb at (rows_of t) l, q)
+  refused k ks v h e = stopped v (number k) (lowest (breaks base t roles k) (rows_of t)) (over k) (tested base t roles ks accepted) h e
 
-  pub turn_refused : Turn t roles n → at < rows_of t → says n at ≡ tested base t roles rules accepted
-  turn_refused turn l = refused turn.from turn.kept l ∙ turn.rest
-
-  passed : {ks : List Rule} → From n ks → ((j : Rule) → number j < n → Keeps t roles j) → rows_of t ≤ at
-      → tested base t roles ks accepted ≡ tested base t roles rules accepted → Turn t roles (n + 1)
+  -- the last rule
+  pub last : (k : Rule) (v : Verdict) → Says k v → v ≡ tested base t roles (k ∷ []) accepted
   unfolding tested
-  passed (none h) kept l r = absurd (omega arith)
-  passed (rule {k = k} {ks = ks} q f) kept l r = record {
-    left = ks;
-    from = f;
-    kept = λ j h.
-        let m : number j ≤ n = omega arith in
-        ⊎_elim
-        (λ z.
-        let s : j ≡ k = sym (rule_number j).0 ∙ (ap rule_of (z ∙ sym q) ∙ (rule_number k).0) in
-        rw s (none_below (lowest_is (breaks base t roles k) (rows_of t)) (rw (at_lowest k q kept) l)))
-        (λ z. kept j z)
-        (eq-or-lt_of_le m);
-    rest = rw (at_lowest k q kept, le-ltb at (rows_of t) l) at r;
-  }
+  last k v e = e
 
-  pub turn_next : Turn t roles n → rows_of t ≤ at → Turn t roles (n + 1)
-  turn_next turn l = passed turn.from turn.kept l turn.rest
+  pub passed : (k : Rule) (ks : List Rule) → Says k accepted → tested base t roles (k ∷ ks) accepted ≡ tested base t roles ks accepted
+  unfolding tested
+  passed k ks e = rw (not_below (number k) (lowest (breaks base t roles k) (rows_of t)) (over k) (rule_number k) e) refl
 
-ended : (t : List ℕ) (roles : ℕ) {n : ℕ} {ks : List Rule} → From n ks → UNGUARDED < n → accepted ≡ tested base t roles ks accepted
-unfolding tested
-ended t roles (none h) l = refl
-ended t roles (rule {k = k} e f) l = let h = (rule_number k).2 in absurd (omega arith)
+  kept : (k : Rule) → Says k accepted → Keeps k
+  kept k e = none_below (lowest_is (breaks base t roles k) (rows_of t)) (not_below (number k) (lowest (breaks base t roles k) (rows_of t)) (over k) (rule_number k) e)
 
-pub turn_end : (t : List ℕ) (roles n : ℕ) → UNGUARDED < n → Turn t roles n → accepted ≡ tested base t roles rules accepted
-turn_end t roles n l turn = ended t roles turn.from l ∙ turn.rest
+  -- past rules 6 and 7 each row but 0 is named by a lower one
+  pub rising_past : Says link accepted → Says named accepted → Rising t
+  unfolding breaks
+  rising_past l n = rising t (kept link l) (kept named n)
+
+  module _ (l : Says link accepted) (n : Says named accepted) where
+    pub twice_found : (k : ℕ) → IsLeast (λ i. chain_of t (row t i)) (rows_of t) (Some k) → Says twice (says TWICE k)
+    unfolding breaks
+    twice_found k h =
+        least_refused TWICE (rows_of t) (λ i. twice_broken t i (row t i)) (λ i. chain_of t (row t i)) (twice_sound t (kept link l) (kept named n))
+        (twice_complete t (kept link l) (kept named n)) k h
+
+    pub twice_none : IsLeast (λ i. chain_of t (row t i)) (rows_of t) None → Says twice accepted
+    unfolding breaks
+    twice_none h =
+        least_accepted TWICE (rows_of t) (λ i. twice_broken t i (row t i)) (λ i. chain_of t (row t i)) (twice_sound t (kept link l) (kept named n))
+        (twice_complete t (kept link l) (kept named n)) h

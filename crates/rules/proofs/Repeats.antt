@@ -1,5 +1,5 @@
--- Where rules 6 and 7 are kept, the first repeat along each Exchange's chain, least over all rows, is the lowest arm that repeats an earlier
--- label of its chain. Assumes nothing.
+-- Where rules 6 and 7 are kept, the first repeat along each Exchange's chain is an arm that repeats an earlier label of its chain, and the
+-- lowest such arm is found along some chain. Assumes nothing.
 use Prim.Native.Nat.{ℕ, zero, suc, ◌-◌, ◌≤◌, ◌<◌}
 use mathlib.Core.Bool.{Bool, true, false, cond, true≢false}
 use mathlib.Core.List.{List, ◌∷◌}
@@ -9,6 +9,7 @@ use lib.Dec.{ltb, eqb}
 use native.Mathlib.Nat.{eq-or-lt_of_le, le_of_suc-le-suc}
 use native.Mathlib.Omega.{arith}
 use borrow.Author.Tests.{lt-ltb, le-ltb, eq-eqb, ne_eqb, eqb-false}
+use Rattle.std.specs.Prelude.{Option, Some, None}
 use Rattle.words.specs.Rows.{rows_of, word}
 use Rattle.words.specs.Below.{lowest, any}
 use Rattle.words.proofs.Below.{Lowest, found, nowhere, lowest_is, lowest_at}
@@ -17,12 +18,11 @@ use Rattle.table.specs.Above.{namer, over, chain_over, has_label}
 use Rattle.table.specs.Rules.{link_broken, named_broken, of_arm, twice_broken}
 use Rattle.table.specs.mirror.Names.{near_link, far_link}
 use Rattle.rules.specs.mirror.Chain.{nth, repeats, stops, repeated_of, chain_of}
-use Rattle.rules.specs.mirror.Blame.{least}
 use Rattle.table.proofs.Tests.{neither, or_comm}
 use Rattle.table.proofs.Rows.{arm_row, arm_third}
 use Rattle.table.proofs.Walk.{over_more}
 use Rattle.table.proofs.Links.{Link, exchange_link, arm_link, loop_link, named_once, namer_is, namer_names, near_named, far_named, named_by}
-use Rattle.rules.proofs.Least.{Sound, none, some, Finds, finds, least_lowest}
+use Rattle.rules.proofs.Least.{Sound, none, some, Finds, finds}
 
 of_arm_lem : (p : ℕ → Bool) (r : Row) → of_arm p r ≡ true → is_arm r ≡ true
 of_arm_lem p (End a b c) e = e
@@ -129,7 +129,7 @@ module _ (t : List ℕ) (link : (i : ℕ) → i < rows_of t → link_broken t i 
   chain_sound e s r f l q = go (lowest_is (stops t f) (rows_of t))
     where
       stopped : (i : ℕ) → i < rows_of t → stops t f i ≡ true → ((j : ℕ) → j < i → stops t f j ≡ false) → (b : Bool) → eqb (nth t f i) 0 ≡ b
-          → Sound (λ i. twice_broken t i (row t i)) (rows_of t) (cond b (rows_of t) (nth t f i))
+          → Sound (λ i. twice_broken t i (row t i)) (rows_of t) (cond b None (Some (nth t f i)))
       stopped i m h before true z = none
       stopped i m h before false z =
           let here = eqb-false (nth t f i) 0 z in
@@ -148,13 +148,13 @@ module _ (t : List ℕ) (link : (i : ℕ) → i < rows_of t → link_broken t i 
 
       go : {i : ℕ} → Lowest (stops t f) (rows_of t) i
           → Sound (λ i. twice_broken t i (row t i)) (rows_of t)
-          (cond (ltb i (rows_of t)) (cond (eqb (nth t f i) 0) (rows_of t) (nth t f i)) (rows_of t))
+          (cond (ltb i (rows_of t)) (cond (eqb (nth t f i) 0) None (Some (nth t f i))) None)
       go (found {i = i} m h before) = rw (lt-ltb i (rows_of t) m) (stopped i m h before (eqb (nth t f i) 0) refl)
       go (nowhere h) = rw (le-ltb (rows_of t) (rows_of t) (omega arith)) none
 
   -- the k-th arm of a chain, where it is the lowest that breaks the rule, is what the chain answers
   chain_finds : (e f k : ℕ) → Chain t e f k → twice_broken t (nth t f k) (row t (nth t f k)) ≡ true
-      → ((i : ℕ) → i < nth t f k → twice_broken t i (row t i) ≡ false) → repeated_of t f ≡ nth t f k
+      → ((i : ℕ) → i < nth t f k → twice_broken t i (row t i) ≡ false) → repeated_of t f ≡ Some (nth t f k)
   unfolding repeated_of
   chain_finds e f k c h before =
       let (m, l) = reached e f k c in
@@ -235,10 +235,11 @@ module _ (t : List ℕ) (link : (i : ℕ) → i < rows_of t → link_broken t i 
   found_in : (i : ℕ) → twice_broken t i (row t i) ≡ true → ((k : ℕ) → k < i → twice_broken t k (row t k) ≡ false) → InChain t i
       → Finds (λ e. chain_of t (row t e)) (rows_of t) i
   found_in i h before (in_chain e f k c q) =
-      finds e c.inside (rw c.first (chain_finds e f k c (rw q h) (rw q before) ∙ q))
+      finds e c.inside (rw c.first (chain_finds e f k c (rw q h) (rw q before) ∙ ap Some q))
 
-  pub twice_least : least (λ e. chain_of t (row t e)) (rows_of t) (rows_of t) ≡ lowest (λ i. twice_broken t i (row t i)) (rows_of t)
-  twice_least =
-      least_lowest (λ i. twice_broken t i (row t i)) (λ e. chain_of t (row t e)) (rows_of t)
-      (λ e l. row_sound e l (row t e) refl)
-      (λ i l h before. found_in i h before (in_some_chain (suc i) i (omega arith) l (of_arm_lem _ (row t i) h)))
+  pub twice_sound : (e : ℕ) → e < rows_of t → Sound (λ i. twice_broken t i (row t i)) (rows_of t) (chain_of t (row t e))
+  twice_sound e l = row_sound e l (row t e) refl
+
+  pub twice_complete : (i : ℕ) → i < rows_of t → twice_broken t i (row t i) ≡ true → ((k : ℕ) → k < i → twice_broken t k (row t k) ≡ false)
+      → Finds (λ e. chain_of t (row t e)) (rows_of t) i
+  twice_complete i l h before = found_in i h before (in_some_chain (suc i) i (omega arith) l (of_arm_lem _ (row t i) h))

@@ -1,41 +1,38 @@
--- `rules::count_loops` meets its contract. The invariant: the places of the rows passed are filled. Assumes nothing.
-use mathlib.Core.Path.{sym, ◌∙◌}
-use lib.Dec.{eqb}
+-- `rules::count_loops` meets its contract. Assumes nothing.
+use mathlib.Core.Path.{◌≡◌, refl, sym, ◌∙◌}
+use lib.ListN.{get_or-map}
 use native.Mathlib.Omega.{arith}
-use Rattle.table.proofs.Rows.{is_loop_lem, row_read}
+use Rattle.table.specs.Above.{namer}
 use Rattle.rules.proofs.Names.{namer_le}
-use Rattle.rules.proofs.Columns.{columns_start, columns_step, columns_end}
+use Rattle.rules.proofs.Columns.{nests_start, nests_step, columns_end}
 use Rattle.rules.proofs.count_loops.Goals as goal
+use Rattle.rules.proofs.count_loops.Goals.{After-from-over}
+
+-- the row over this one
+over_is : (c : After-from-over) → c.from-over.result ≡ namer c.args.words.now c.loop-row.row
+over_is c =
+    let at = c.loop-row in
+    c.from-over.ensures ∙ (sym (get_or-map (λ n. n.by) c.args.names.now at.row (record { by = 0; times = 0 })) ∙ c.requires.1 at.row (omega (arith, at.auto)) (omega arith))
 
 pub loop-row-init : goal.loop-row-init
-loop-row-init c = (omega arith, columns_start c.args.words.now)
+loop-row-init c = nests_start c.args.words.now
 
-pub stand_under-requires : goal.stand_under-requires
-stand_under-requires c =
-    let over = c.wide-over in
-    let at = c.loop-row in
-    let e = over.ensures.0 ∙ c.requires.1 at.row at.invariant.0 (omega arith) in (
-      omega arith,
-      omega (arith, namer_le c.args.words.now at.row),
-      omega (arith, at.invariant.1.0.few over.result),
-      omega (arith, at.invariant.1.1.few over.result),
+pub bounds-nests-over : goal.bounds-nests-over
+bounds-nests-over c = let e = over_is c in omega (arith, namer_le c.args.words.now c.loop-row.row)
+
+pub under-requires : goal.under-requires
+under-requires c =
+    let few = c.loop-row.invariant in
+    let p = c.from-over.result in (
+      rw (← get_or-map (λ n. n.around) c.loop-row.nests p (record { around = 0; near = 0 })) (omega (arith, few.0.few p)),
+      rw (← get_or-map (λ n. n.near) c.loop-row.nests p (record { around = 0; near = 0 })) (omega (arith, few.1.few p)),
     )
 
 pub loop-row-preserved : goal.loop-row-preserved
 loop-row-preserved c =
-    let parent = c.read-parent in
-    let row = parent.result in
-    let over = c.wide-over in
-    let more = c.loop-row-test.true in
     let at = c.loop-row in
-    let e = over.ensures.0 ∙ c.requires.1 at.row at.invariant.0 (omega arith) in (
-      omega arith,
-      columns_step c.args.words.now at.around at.near at.row over.result (eqb row.kind 3) more (omega arith) at.invariant.0 e
-          (rw (row_read _ _ parent.ensures) (sym (is_loop_lem row.kind row.first row.second row.third)))
-          at.invariant.1 _ _ c.stand_under.ensures,
-    )
+    nests_step c.args.words.now at.nests at.row c.from-over.result c.is_loop.result c.under.result c.loop-row-test.true (omega arith) (omega (arith, at.auto))
+    (over_is (goal.at.loop-row-preserved c).After-from-over) c.is_loop.ensures c.under.ensures at.invariant
 
 pub returns : goal.returns
-returns c =
-    let at = c.loop-row in
-    columns_end c.args.words.now at.around at.near at.row c.loop-row-test.false at.invariant.1
+returns c = columns_end c.args.words.now _ _ c.loop-row.row c.loop-row-test.false c.loop-row.invariant

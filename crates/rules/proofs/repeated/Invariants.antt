@@ -8,11 +8,8 @@ use Rattle.rules.specs.mirror.Chain.{nth, stops}
 use Rattle.rules.proofs.Chain.{same}
 use Rattle.rules.proofs.repeated.Given as goal
 
-abbrev pub invariant-loop-i : goal.invariant-loop-i
-invariant-loop-i l = (l.earlier ≡ nth l.words l.first l.i) × (l.i ≤ l.passed) × ((m : ℕ) → m < l.i → same l.words l.first l.passed m ≡ false)
-
-abbrev pub decreases-loop-i : goal.decreases-loop-i
-decreases-loop-i l = l.passed - l.i
+abbrev pub invariant-loop : goal.invariant-loop
+invariant-loop l = (l.earlier ≡ nth l.words l.first l.counter) × ((m : ℕ) → m < l.counter → same l.words l.first l.passed m ≡ false)
 
 abbrev pub invariant-chain : goal.invariant-chain
 invariant-chain l = (l.row ≡ nth l.words l.first l.passed) × (l.passed ≤ rows_of l.words) × ((k : ℕ) → k < l.passed → stops l.words l.first k ≡ false)

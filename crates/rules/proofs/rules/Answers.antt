@@ -1,35 +1,113 @@
--- `rules::rules` meets its contract. The invariant: the rules before this one are kept, and the answer is that of the rules from this one on. Assumes nothing.
-use Rattle.rules.proofs.Order.{turn_start, turn_low, turn_rising, turn_refused, turn_next, turn_end}
+-- `rules::rules` meets its contract: each rule's answer is that of all, where the rules before it are kept. Assumes nothing.
+use Rattle.std.proofs.Common.{rules, ◌∙◌, sym}
+use Rattle.std.proofs.lemmas.Result.{err_from_is_err_and}
+use native.Mathlib.Omega.{arith}
+use Rattle.table.specs.Limits.{base}
+use Rattle.table.specs.Check.{accepted}
+use Rattle.table.specs.Rules.{kind, field, link, named, twice, unbound, unguarded, breaks}
+use Rattle.rules.proofs.Order.{Says, refused, passed, last, rising_past, twice_found, twice_none, some_number}
 use Rattle.rules.proofs.rules.Goals as goal
+use Rattle.rules.proofs.rules.Goals.{In_ok-refuse_lowest, In_ok-refuse_lowest-2, In_ok-refuse_lowest-3, In_ok-refuse_lowest-4, In_ok-refuse_lowest-5, In_default}
 
-pub name_rows-named-requires : goal.name_rows-named-requires
-name_rows-named-requires c = c.requires
+-- the rules that are kept on the way
+kinds : (c : In_ok-refuse_lowest) → Says c.args.words.now c.args.roles kind accepted
+unfolding breaks
+kinds c = c.in_ok-refuse_lowest.ensures {u = tt} (breaks base c.args.words.now c.args.roles kind) (λ i b l e. search rules)
 
-pub count_loops-loops-requires : goal.count_loops-loops-requires
-count_loops-loops-requires c = (c.requires, c.name_rows-named.ensures.0)
+fields : (c : In_ok-refuse_lowest-2) → Says c.args.words.now c.args.roles field accepted
+unfolding breaks
+fields c = c.in_ok-refuse_lowest-2.ensures {u = tt} (breaks base c.args.words.now c.args.roles field) (λ i b l e. search rules)
 
-pub loop-rule-init : goal.loop-rule-init
-loop-rule-init c = turn_start _ _
+links : (c : In_ok-refuse_lowest-3) → Says c.args.words.now c.args.roles link accepted
+unfolding breaks
+links c = c.in_ok-refuse_lowest-3.ensures {u = tt} (breaks base c.args.words.now c.args.roles link) (λ i b l e. search rules)
 
-pub lowest-row-requires : goal.lowest-row-requires
-lowest-row-requires c =
-    let h = c.loop-rule-test.true in
-    let turn = c.loop-rule.invariant in (
-      (c.requires, c.name_rows-named.ensures.1, c.count_loops-loops.ensures),
-      turn_low _ _ _ turn h,
-      h,
-      turn_rising _ _ _ turn,
-    )
+names : (c : In_ok-refuse_lowest-4) → Says c.args.words.now c.args.roles named accepted
+unfolding breaks
+names c = c.in_ok-refuse_lowest-4.ensures {u = tt} (breaks base c.args.words.now c.args.roles named) (λ i b l e. search rules)
 
-pub returns-then-row-rows : goal.returns-then-row-rows
-returns-then-row-rows c =
-    let h = c.loop-rule-test.true in
-    turn_refused _ _ _ _ h c.lowest-row.ensures c.loop-rule.invariant c.if-row-rows.true
+bounds : (c : In_ok-refuse_lowest-5) → Says c.args.words.now c.args.roles unbound accepted
+unfolding breaks
+bounds c = c.in_ok-refuse_lowest-5.ensures {u = tt} (breaks base c.args.words.now c.args.roles unbound) (λ i b l e. search rules)
 
-pub loop-rule-preserved : goal.loop-rule-preserved
-loop-rule-preserved c =
-    let h = c.loop-rule-test.true in
-    turn_next _ _ _ _ h c.lowest-row.ensures c.loop-rule.invariant c.if-row-rows.false
+pub returns-in_err-refuse_lowest : goal.returns-in_err-refuse_lowest
+unfolding breaks
+returns-in_err-refuse_lowest c =
+    let t = c.args.words.now in
+    let roles = c.args.roles in
+    let p = err_from_is_err_and c.from_residual.result c.from_residual.ensures.1 in
+    rw (p.1, p.2)
+    (refused t roles kind _ _ (some_number _) (c.in_err-refuse_lowest.ensures {u = tt} (breaks base t roles kind) (λ i b l e. search rules)))
+
+pub returns-in_err-refuse_lowest-2 : goal.returns-in_err-refuse_lowest-2
+unfolding breaks
+returns-in_err-refuse_lowest-2 c =
+    let t = c.args.words.now in
+    let roles = c.args.roles in
+    let at = goal.at.returns-in_err-refuse_lowest-2 c in
+    let p = err_from_is_err_and c.from_residual-in_err-refuse_lowest-2.result c.from_residual-in_err-refuse_lowest-2.ensures.1 in
+    rw (p.1, p.2)
+    (refused t roles field _ _ (some_number _) (c.in_err-refuse_lowest-2.ensures {u = tt} (breaks base t roles field) (λ i b l e. search rules))
+    ∙ sym (passed t roles kind _ (kinds at.In_ok-refuse_lowest)))
+
+pub returns-in_err-refuse_lowest-3 : goal.returns-in_err-refuse_lowest-3
+unfolding breaks
+returns-in_err-refuse_lowest-3 c =
+    let t = c.args.words.now in
+    let roles = c.args.roles in
+    let at = goal.at.returns-in_err-refuse_lowest-3 c in
+    let p = err_from_is_err_and c.from_residual-in_err-refuse_lowest-3.result c.from_residual-in_err-refuse_lowest-3.ensures.1 in
+    rw (p.1, p.2)
+    (refused t roles link _ _ (some_number _) (c.in_err-refuse_lowest-3.ensures {u = tt} (breaks base t roles link) (λ i b l e. search rules))
+    ∙ sym ((passed t roles kind _ (kinds at.In_ok-refuse_lowest) ∙ passed t roles field _ (fields at.In_ok-refuse_lowest-2))))
+
+pub returns-in_err-refuse_lowest-4 : goal.returns-in_err-refuse_lowest-4
+unfolding breaks
+returns-in_err-refuse_lowest-4 c =
+    let t = c.args.words.now in
+    let roles = c.args.roles in
+    let at = goal.at.returns-in_err-refuse_lowest-4 c in
+    let p = err_from_is_err_and c.from_residual-in_err-refuse_lowest-4.result c.from_residual-in_err-refuse_lowest-4.ensures.1 in
+    rw (p.1, p.2)
+    (refused t roles named _ _ (some_number _) (c.in_err-refuse_lowest-4.ensures {u = tt} (breaks base t roles named) (λ i b l e. search rules))
+    ∙ sym ((passed t roles kind _ (kinds at.In_ok-refuse_lowest) ∙ (passed t roles field _ (fields at.In_ok-refuse_lowest-2) ∙ passed t roles link _ (links at.In_ok-refuse_lowest-3)))))
+
+pub returns-in_err-refuse_lowest-5 : goal.returns-in_err-refuse_lowest-5
+unfolding breaks
+returns-in_err-refuse_lowest-5 c =
+    let t = c.args.words.now in
+    let roles = c.args.roles in
+    let at = goal.at.returns-in_err-refuse_lowest-5 c in
+    let twos = twice_none t roles (links at.In_ok-refuse_lowest-3) (names at.In_ok-refuse_lowest-4) (c.in_default.ensures {u = tt}) in
+    let p = err_from_is_err_and c.from_residual-in_err-refuse_lowest-5.result c.from_residual-in_err-refuse_lowest-5.ensures.1 in
+    rw (p.1, p.2)
+    (refused t roles unbound _ _ (some_number _) (c.in_err-refuse_lowest-5.ensures {u = tt} (breaks base t roles unbound) (λ i b l e. search rules))
+    ∙ sym ((passed t roles kind _ (kinds at.In_ok-refuse_lowest) ∙ (passed t roles field _ (fields at.In_ok-refuse_lowest-2) ∙ (passed t roles link _ (links at.In_ok-refuse_lowest-3) ∙ (passed t roles named _ (names at.In_ok-refuse_lowest-4) ∙ passed t roles twice _ twos))))))
+
+pub returns-in-Some : goal.returns-in-Some
+returns-in-Some c =
+    let t = c.args.words.now in
+    let roles = c.args.roles in
+    let at = goal.at.returns-in-Some c in
+    refused t roles twice _ _ (omega arith) (twice_found t roles (links at.In_ok-refuse_lowest-3) (names at.In_ok-refuse_lowest-4) c.in-Some.place (c.in-Some.ensures {u = tt}))
+    ∙ sym (passed t roles kind _ (kinds at.In_ok-refuse_lowest) ∙ (passed t roles field _ (fields at.In_ok-refuse_lowest-2) ∙ (passed t roles link _ (links at.In_ok-refuse_lowest-3) ∙ passed t roles named _ (names at.In_ok-refuse_lowest-4))))
+
+pub refuse_lowest-requires-5 : goal.refuse_lowest-requires-5
+refuse_lowest-requires-5 c =
+    let at = goal.at.refuse_lowest-requires-5 c in
+    λ row l _ _ _ _ _. rw c.of-survey.ensures (l, rising_past c.args.words.now c.args.roles (links at.In_ok-refuse_lowest-3) (names at.In_ok-refuse_lowest-4))
+
+pub refuse_lowest-requires-6 : goal.refuse_lowest-requires-6
+refuse_lowest-requires-6 c =
+    let at = goal.at.refuse_lowest-requires-6 c in
+    λ row l _ _ _ _ _. rw c.of-survey.ensures (l, rising_past c.args.words.now c.args.roles (links at.In_ok-refuse_lowest-3) (names at.In_ok-refuse_lowest-4))
 
 pub returns : goal.returns
-returns c = turn_end _ _ _ c.loop-rule-test.false c.loop-rule.invariant
+unfolding breaks
+returns c =
+    let t = c.args.words.now in
+    let roles = c.args.roles in
+    let at = goal.at.returns c in
+    let twos = twice_none t roles (links at.In_ok-refuse_lowest-3) (names at.In_ok-refuse_lowest-4) (c.in_default.ensures {u = tt}) in
+    last t roles unguarded _ (c.refuse_lowest-6.ensures (breaks base t roles unguarded) (λ i b l e. search rules))
+    ∙ sym (passed t roles kind _ (kinds at.In_ok-refuse_lowest) ∙ (passed t roles field _ (fields at.In_ok-refuse_lowest-2) ∙ (passed t roles link _ (links at.In_ok-refuse_lowest-3) ∙ (passed t roles named _ (names at.In_ok-refuse_lowest-4) ∙ (passed t roles twice _ twos ∙ passed t roles unbound _ (bounds at.In_ok-refuse_lowest-5))))))

@@ -1,9 +1,11 @@
 -- Who names each row, and the Loops around it, as lists that one pass each over the rows fills. Assumes nothing.
-use Rattle.std.specs.Prelude.{ℕ, suc, ◌*◌, ◌≤◌, ◌<◌, cond, List, ◌≡◌, ltb, get_or, length, set}
+use Rattle.std.specs.Prelude.{ℕ, suc, ◌*◌, ◌≤◌, ◌<◌, cond, List, ◌≡◌, ltb, get_or, length, map, set}
 use Rattle.words.specs.Rows.{rows_of}
 use Rattle.table.specs.Limits.{base}
 use Rattle.table.specs.Above.{times_named, namer, loops, above}
 use Rattle.table.specs.mirror.Names.{near_loops, Rising}
+use Rattle.rules.specs.declared.Name.{Name}
+use Rattle.rules.specs.declared.Nest.{Nest}
 
 -- the limit of the code
 abbrev pub FewRows : List ℕ → Type 0
@@ -17,6 +19,19 @@ places = suc base.rows
 abbrev pub placed : List ℕ → ℕ → ℕ → List ℕ
 placed l i x = cond (ltb i places) (set l i x) l
 
+-- one number of each place
+abbrev pub named_by : List Name → List ℕ
+named_by names = map (λ n. n.by) names
+
+abbrev pub times_of : List Name → List ℕ
+times_of names = map (λ n. n.times) names
+
+abbrev pub around_of : List Nest → List ℕ
+around_of nests = map (λ n. n.around) nests
+
+abbrev pub near_of : List Nest → List ℕ
+near_of nests = map (λ n. n.near) nests
+
 -- the list has, for each row but 0 and for the row after the last, the lowest row that names it
 abbrev pub Namers : List ℕ → List ℕ → Type 0
 Namers t by = (i : ℕ) → 0 < i → i ≤ rows_of t → get_or by i 0 ≡ namer t i
@@ -29,7 +44,3 @@ Counts t times = (i : ℕ) → 0 < i → i ≤ rows_of t → get_or times i 0 �
 abbrev pub Around : List ℕ → List ℕ → List ℕ → Type 0
 Around t around near =
     Rising t → (i : ℕ) → i < rows_of t → (get_or around i 0 ≡ loops t (above t i)) × (get_or near i 0 ≡ near_loops t (above t i))
-
--- what the rules read, for a table inside the limit
-abbrev pub Filled : List ℕ → List ℕ → List ℕ → List ℕ → Type 0
-Filled t times around near = (FewRows t) × (Counts t times) × (Around t around near)
