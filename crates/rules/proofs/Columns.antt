@@ -105,8 +105,7 @@ pub nests_step : (t : List ℕ) (nests : List Nest) (n p : ℕ) (il : Bool) (new
     → (new.around ≡ (get_or nests p (record { around = 0; near = 0 })).around + one il) × (new.near ≡ cond il ((get_or nests p (record { around = 0; near = 0 })).near + 1) 0)
     → Columns t (around_of nests) (near_of nests) n → Columns t (around_of (set nests n new)) (near_of (set nests n new)) (n + 1)
 nests_step t nests n p il new inside small some ep ei e c =
-    columns_step t (around_of nests) (near_of nests) n p il inside small some ep ei c (around_of (set nests n new)) (near_of (set nests n new))
-    (
+    columns_step t (around_of nests) (near_of nests) n p il inside small some ep ei c (around_of (set nests n new)) (near_of (set nests n new)) (
       rw (map-set (λ (n : Nest). n.around) nests n new, e.0, get_or-map (λ (n : Nest). n.around) nests p (record { around = 0; near = 0 })) refl,
       rw (map-set (λ (n : Nest). n.near) nests n new, e.1, get_or-map (λ (n : Nest). n.near) nests p (record { around = 0; near = 0 })) refl,
     )

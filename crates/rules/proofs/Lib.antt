@@ -1,4 +1,4 @@
-pub mod Names
+pub mod Naming
 pub mod Columns
 pub mod Chain
 pub mod Least

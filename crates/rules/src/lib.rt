@@ -44,22 +44,42 @@ fn add_name(names: &mut [Name; PLACES], to: usize, row: u16)
     }
 }
 
-// Rows are taken from the last to the first, so the lowest that names a row is written last.
-fn name_rows(words: &[u16]) -> [Name; PLACES]
-    requires { FewRows words.now }
-    ensures { (Namers words.now (named_by result)) × (Counts words.now (times_of result)) }
-{
-    let rows = words.len() / 4;
-    let mut names = [Name {
-        by: rows as u16,
-        times: 0,
-    }; PLACES];
-    for row in (0..rows).rev() {
-        let this = read(words, row);
-        add_name(&mut names, this.near_link(), row as u16);
-        add_name(&mut names, this.far_link(), row as u16);
+// Who names each row of a table inside the limit.
+#[derive(Drop)]
+struct Names<'a> {
+    words: &'a [u16],
+    rows: [Name; PLACES],
+    ghost few: { FewRows words.now },
+    ghost by: { Namers words.now (named_by rows) },
+    ghost times: { Counts words.now (times_of rows) },
+}
+
+impl<'a> Names<'a> {
+    // Rows are taken from the last to the first, so the lowest that names a row is written last.
+    fn of(words: &'a [u16]) -> Names<'a>
+        requires { FewRows words.now }
+        ensures { result.words.now ≡ words.now }
+    {
+        let count = words.len() / 4;
+        let mut rows = [Name {
+            by: count as u16,
+            times: 0,
+        }; PLACES];
+        for row in (0..count).rev() {
+            let this = read(words, row);
+            add_name(&mut rows, this.near_link(), row as u16);
+            add_name(&mut rows, this.far_link(), row as u16);
+        }
+        Names { words, rows }
     }
-    names
+
+    // A row but 0 not named exactly once.
+    fn broken(&self, row: usize) -> bool
+        requires { row < rows_of self.now.words.now }
+        ensures { result ≡ named_broken self.now.words.now row }
+    {
+        row != 0 && self.rows[row].times != 1
+    }
 }
 
 // ---- rule 8: labels of a chain
@@ -148,55 +168,28 @@ fn is_loop(words: &[u16], row: usize) -> bool
     matches!(read(words, row), Row::Loop(..))
 }
 
-// Rows are taken from the first to the last, so the place of the row over each is filled before its own. Over a row that nobody names is
-// the place after the last row. Where rule 6 or 7 is broken the places hold anything: rules 9 and 10 come later.
-fn count_loops(words: &[u16], names: &[Name; PLACES]) -> [Nest; PLACES]
-    requires { (FewRows words.now) × (Namers words.now (named_by names.now)) }
-    ensures { Around words.now (around_of result) (near_of result) }
-{
-    let rows = words.len() / 4;
-    let mut nests = [Nest { around: 0, near: 0 }; PLACES];
-    for row in 1..rows {
-        let over = usize::from(names[row].by);
-        nests[row] = nests[over].under(is_loop(words, over));
-    }
-    nests
-}
-
-// ---- the rules in order
-
-// A table inside the limit, and what the rules ask of its other rows: who names each row, found in one pass, and the Loops around it,
-// found in a second.
+// The Loops around each row of a table. Where rule 6 or 7 is broken the places hold anything: rules 9 and 10 come later.
 #[derive(Drop)]
-struct Survey<'a> {
+struct Nests<'a> {
     words: &'a [u16],
-    names: [Name; PLACES],
-    nests: [Nest; PLACES],
+    rows: [Nest; PLACES],
     ghost few: { FewRows words.now },
-    ghost counted: { Counts words.now (times_of names) },
-    ghost nested: { Around words.now (around_of nests) (near_of nests) },
+    ghost filled: { Around words.now (around_of rows) (near_of rows) },
 }
 
-impl<'a> Survey<'a> {
-    fn of(words: &'a [u16]) -> Survey<'a>
-        requires { FewRows words.now }
-        ensures { result.words.now ≡ words.now }
+impl<'a> Nests<'a> {
+    // Rows are taken from the first to the last, so the place of the row over each is filled before its own. Over a row that nobody names
+    // is the place after the last row.
+    fn of(names: &Names<'a>) -> Nests<'a>
+        ensures { result.words.now ≡ names.now.words.now }
     {
-        let names = name_rows(words);
-        let nests = count_loops(words, &names);
-        Survey {
-            words,
-            names,
-            nests,
+        let words = names.words;
+        let mut rows = [Nest { around: 0, near: 0 }; PLACES];
+        for row in 1..words.len() / 4 {
+            let over = usize::from(names.rows[row].by);
+            rows[row] = rows[over].under(is_loop(words, over));
         }
-    }
-
-    // A row but 0 not named exactly once.
-    fn named_broken(&self, row: usize) -> bool
-        requires { row < rows_of self.now.words.now }
-        ensures { result ≡ named_broken self.now.words.now row }
-    {
-        row != 0 && self.names[row].times != 1
+        Nests { words, rows }
     }
 
     // A Back with too few Loops around it.
@@ -205,7 +198,7 @@ impl<'a> Survey<'a> {
         ensures { result ≡ unbound_broken self.now.words.now row (row_at self.now.words.now row) }
     {
         match read(self.words, row) {
-            Row::Back(depth, ..) => usize::from(self.nests[row].around) <= depth,
+            Row::Back(depth, ..) => usize::from(self.rows[row].around) <= depth,
             _ => false,
         }
     }
@@ -216,11 +209,13 @@ impl<'a> Survey<'a> {
         ensures { result ≡ unguarded_broken self.now.words.now row (row_at self.now.words.now row) }
     {
         match read(self.words, row) {
-            Row::Back(depth, ..) => depth < usize::from(self.nests[row].near),
+            Row::Back(depth, ..) => depth < usize::from(self.rows[row].near),
             _ => false,
         }
     }
 }
+
+// ---- the rules in order
 
 // The rule is refused at the lowest of the rows that breaks it.
 fn refuse_lowest<F: Fn(usize) -> bool>(rule: Rule, rows: usize, broken: F) -> Result<(), Refusal>
@@ -235,14 +230,15 @@ fn refuse_lowest<F: Fn(usize) -> bool>(rule: Rule, rows: usize, broken: F) -> Re
     Ok(())
 }
 
-// Rules 4 to 10 in order, each over all rows. A rule looks at each row once, TWICE also at each two arms of a chain. So the time of each
-// other rule is linear in the rows.
+// Rules 4 to 10 in order, each over all rows. Who names each row is found once, in one pass, and how many Loops stand around it in a
+// second. A rule then looks at each row once, TWICE also at each two arms of a chain. So the time of each other rule is linear in the rows.
 fn rules(words: &[u16], roles: usize) -> Result<(), Refusal>
     requires { FewRows words.now }
     ensures { verdict_of result ≡ tested base words.now roles rules_in_order accepted }
 {
     let rows = words.len() / 4;
-    let survey = Survey::of(words);
+    let names = Names::of(words);
+    let nests = Nests::of(&names);
     refuse_lowest(Rule::Kind, rows, |row| read(words, row).kind_broken())?;
     refuse_lowest(
         Rule::Field,
@@ -250,15 +246,15 @@ fn rules(words: &[u16], roles: usize) -> Result<(), Refusal>
         |row| read(words, row).field_broken(roles),
     )?;
     refuse_lowest(Rule::Link, rows, |row| link_broken(words, row))?;
-    refuse_lowest(Rule::Named, rows, |row| survey.named_broken(row))?;
+    refuse_lowest(Rule::Named, rows, |row| names.broken(row))?;
     if let Some(place) = lowest_twice(words) {
         return Err(Refusal {
             rule: Rule::Twice,
             place,
         });
     }
-    refuse_lowest(Rule::Unbound, rows, |row| survey.unbound_broken(row))?;
-    refuse_lowest(Rule::Unguarded, rows, |row| survey.unguarded_broken(row))
+    refuse_lowest(Rule::Unbound, rows, |row| nests.unbound_broken(row))?;
+    refuse_lowest(Rule::Unguarded, rows, |row| nests.unguarded_broken(row))
 }
 
 // Rules 1, 2 and 4 to 10 in order, each naming the lowest row that breaks it.

@@ -95,12 +95,12 @@ returns-in-Some c =
 pub refuse_lowest-requires-5 : goal.refuse_lowest-requires-5
 refuse_lowest-requires-5 c =
     let at = goal.at.refuse_lowest-requires-5 c in
-    λ row l _ _ _ _ _. rw c.of-survey.ensures (l, rising_past c.args.words.now c.args.roles (links at.In_ok-refuse_lowest-3) (names at.In_ok-refuse_lowest-4))
+    λ row l _ _ _ _ _. rw (c.of-nests.ensures, c.of-names.ensures) (l, rising_past c.args.words.now c.args.roles (links at.In_ok-refuse_lowest-3) (names at.In_ok-refuse_lowest-4))
 
 pub refuse_lowest-requires-6 : goal.refuse_lowest-requires-6
 refuse_lowest-requires-6 c =
     let at = goal.at.refuse_lowest-requires-6 c in
-    λ row l _ _ _ _ _. rw c.of-survey.ensures (l, rising_past c.args.words.now c.args.roles (links at.In_ok-refuse_lowest-3) (names at.In_ok-refuse_lowest-4))
+    λ row l _ _ _ _ _. rw (c.of-nests.ensures, c.of-names.ensures) (l, rising_past c.args.words.now c.args.roles (links at.In_ok-refuse_lowest-3) (names at.In_ok-refuse_lowest-4))
 
 pub returns : goal.returns
 unfolding breaks

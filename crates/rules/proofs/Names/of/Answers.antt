@@ -1,10 +1,10 @@
--- `rules::name_rows` meets its contract. Assumes nothing.
+-- `rules::Names::of` meets its contract. Assumes nothing.
 use mathlib.Core.Path.{◌≡◌, ◌∙◌, ap}
 use native.Mathlib.Omega.{arith}
 use Rattle.table.specs.mirror.Names.{near_link, far_link}
 use Rattle.rules.specs.mirror.Names.{times_of}
-use Rattle.rules.proofs.Names.{names_start, filling_turn, filling_end, put_bound}
-use Rattle.rules.proofs.name_rows.Goals as goal
+use Rattle.rules.proofs.Naming.{names_start, filling_turn, filling_end, put_bound}
+use Rattle.rules.proofs.Names.of.Goals as goal
 
 pub loop-row-init : goal.loop-row-init
 loop-row-init c = names_start c.args.words.now (omega arith)
@@ -13,10 +13,14 @@ pub add_name-requires : goal.add_name-requires
 add_name-requires c = omega (arith, c.loop-row.invariant.few c.near_link.result)
 
 pub add_name-requires-in-loop-row : goal.add_name-requires-in-loop-row
-add_name-requires-in-loop-row c = rw c.add_name.ensures.times (omega (arith, c.loop-row.invariant.few c.far_link.result, put_bound (times_of c.loop-row.names) c.far_link.result c.near_link.result c.loop-row.invariant.count_length))
+add_name-requires-in-loop-row c = rw c.add_name.ensures.times (omega (arith, c.loop-row.invariant.few c.far_link.result, put_bound (times_of c.loop-row.rows) c.far_link.result c.near_link.result c.loop-row.invariant.count_length))
 
 pub loop-row-preserved : goal.loop-row-preserved
 loop-row-preserved c = filling_turn c.args.words.now _ _ _ _ _ _ c.loop-row.row _ _ (omega arith) (omega arith) (c.near_link.ensures ∙ ap near_link c.read-this.ensures) (c.far_link.ensures ∙ ap far_link c.read-this.ensures) (c.add_name.ensures.by, c.add_name.ensures.times) (c.add_name-in-loop-row.ensures.by, c.add_name-in-loop-row.ensures.times) c.loop-row.invariant
 
-pub returns : goal.returns
-returns c = let e : c.loop-row.row ≡ 0 = omega arith in filling_end _ _ _ (rw e at c.loop-row.invariant)
+-- what the places then say
+pub invariant_of-result-clause-by : goal.invariant_of-result-clause-by
+invariant_of-result-clause-by c = let e : c.loop-row.row ≡ 0 = omega arith in (filling_end c.args.words.now _ _ (rw e at c.loop-row.invariant)).0
+
+pub invariant_of-result-clause-times : goal.invariant_of-result-clause-times
+invariant_of-result-clause-times c = let e : c.loop-row.row ≡ 0 = omega arith in (filling_end c.args.words.now _ _ (rw e at c.loop-row.invariant)).1

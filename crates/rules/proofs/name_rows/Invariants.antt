@@ -1,8 +1,0 @@
--- `rules::name_rows` meets its contract. The invariant: what the places say with what the rows still to come will add is what they are to say.
--- Assumes nothing.
-use Rattle.rules.specs.mirror.Names.{named_by, times_of}
-use Rattle.rules.proofs.Names.{Filling}
-use Rattle.rules.proofs.name_rows.Given as goal
-
-abbrev pub invariant-loop-row : goal.invariant-loop-row
-invariant-loop-row l = Filling l.words (named_by l.names) (times_of l.names) l.row
