@@ -9,9 +9,9 @@ use lib.Dec.{ltb, eqb}
 use native.Mathlib.Nat.{eq-or-lt_of_le, le_of_suc-le-suc}
 use native.Mathlib.Omega.{arith}
 use borrow.Author.Tests.{lt-ltb, le-ltb, eq-eqb, ne_eqb, eqb-false}
-use Rattle.std.specs.Prelude.{Option, Some, None}
+use Rattle.std.specs.Prelude.{Some, None}
 use Rattle.words.specs.Rows.{rows_of, word}
-use Rattle.words.specs.Below.{lowest, any}
+use Rattle.words.specs.Below.{any}
 use Rattle.words.proofs.Below.{Lowest, found, nowhere, lowest_is, lowest_at}
 use Rattle.table.specs.Rows.{Row, End, Exchange, Arm, Loop, Back, Other, row, is_arm}
 use Rattle.table.specs.Above.{namer, over, chain_over, has_label}

@@ -1,5 +1,5 @@
 -- `rules::Nests::of` meets its contract. Assumes nothing.
-use mathlib.Core.Path.{◌≡◌, refl, sym, ◌∙◌}
+use mathlib.Core.Path.{◌≡◌, sym, ◌∙◌}
 use lib.ListN.{get_or-map}
 use native.Mathlib.Omega.{arith}
 use Rattle.table.specs.Above.{namer}
