@@ -92,6 +92,7 @@ fn repeated(words: &[u16], first: usize) -> Option<usize>
     let rows = words.len() / 4;
     let mut row = first;
     let mut passed = 0;
+    // kept: a rule of the project, nested loops over the chain left by a label at the first repeated label
     'chain: loop {
         if row == 0 || rows <= passed {
             break 'chain None;

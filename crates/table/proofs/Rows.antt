@@ -1,6 +1,6 @@
 -- Laws of what a row's first word says of it. Assumes nothing.
 use Prim.Native.Nat.{ℕ, zero, suc}
-use mathlib.Core.Bool.{Bool, true, ◌&&◌, true≢false}
+use mathlib.Core.Bool.{true, true≢false}
 use mathlib.Core.List.{List}
 use mathlib.Core.Path.{◌≡◌, refl, sym, ◌∙◌, ap}
 use lib.Dec.{eqb}
@@ -8,7 +8,6 @@ use native.Mathlib.Omega.{arith}
 use borrow.Author.Tests.{ne_eqb}
 use Rattle.words.specs.Rows.{word}
 use Rattle.table.specs.Rows.{Arm, row_of, row, is_arm, is_loop}
-use Rattle.table.specs.Rules.{of_back}
 use Rattle.table.specs.mirror.Names.{far_link}
 
 pub is_arm_lem : (k a b c : ℕ) → is_arm (row_of k a b c) ≡ eqb k 2
@@ -26,14 +25,6 @@ is_loop_lem (suc (suc zero)) a b c = refl
 is_loop_lem (suc (suc (suc zero))) a b c = refl
 is_loop_lem (suc (suc (suc (suc zero)))) a b c = refl
 is_loop_lem (suc (suc (suc (suc (suc k))))) a b c = sym (ne_eqb (suc (suc (suc (suc (suc k))))) 3 (omega arith))
-
-pub of_back_lem : (p : ℕ → Bool) (k a b c : ℕ) → of_back p (row_of k a b c) ≡ (eqb k 4 && p a)
-of_back_lem p zero a b c = refl
-of_back_lem p (suc zero) a b c = refl
-of_back_lem p (suc (suc zero)) a b c = refl
-of_back_lem p (suc (suc (suc zero))) a b c = refl
-of_back_lem p (suc (suc (suc (suc zero)))) a b c = refl
-of_back_lem p (suc (suc (suc (suc (suc k))))) a b c = rw (ne_eqb (suc (suc (suc (suc (suc k))))) 4 (omega arith))
 
 -- an Arm, by its words
 arm_words : (k a b c : ℕ) → is_arm (row_of k a b c) ≡ true → row_of k a b c ≡ Arm a b c
