@@ -65,7 +65,7 @@ columns_start t =
 pub nests_start : (t : List ℕ) → Columns t (around_of (replicate places (record { around = 0; near = 0 }))) (near_of (replicate places (record { around = 0; near = 0 }))) 1
 nests_start t = rw (map-replicate (λ (n : Nest). n.around) places (record { around = 0; near = 0 }), map-replicate (λ (n : Nest). n.near) places (record { around = 0; near = 0 })) (columns_start t)
 
-module _ (t around near : List ℕ) (n p : ℕ) (il : Bool) (inside : n < rows_of t) (small : rows_of t < places) (some : 0 < n) (ep : p ≡ namer t n)
+module _ (t around near : List ℕ) (n p : ℕ) (il : Bool) (inside : n < rows_of t) (small : rows_of t ≤ places) (some : 0 < n) (ep : p ≡ namer t n)
     (ei : il ≡ is_loop (row t p)) (c : Columns t around near n) where
   under : Rising t → above t n ≡ p ∷ above t p
   under up = rw ep (above_more t up n some inside)
@@ -100,7 +100,25 @@ module _ (t around near : List ℕ) (n p : ℕ) (il : Bool) (inside : n < rows_o
     column_step t (λ i. near_loops t (above t i)) near n (cond il (get_or near p 0 + 1) 0) (omega arith) (stored_most il (get_or near p 0) (c.1.few p)).1 near_is c.1,
   )
 
-pub nests_step : (t : List ℕ) (nests : List Nest) (n p : ℕ) (il : Bool) (new : Nest) → n < rows_of t → rows_of t < places → 0 < n → p ≡ namer t n
+-- a row that nobody names stands in no table where each row but 0 is named by a lower one
+column_left : (t : List ℕ) (f : ℕ → ℕ) (l : List ℕ) (n : ℕ) → n < rows_of t → 0 < n → rows_of t ≡ namer t n → Column t f l n → Column t f l (n + 1)
+column_left t f l n h some e c = record {
+  long = c.long;
+  few = λ i. let k = c.few i in omega arith;
+  has = λ up i m k. has up i m k (ℕ_discrete i n);
+}
+  where
+    has : Rising t → (i : ℕ) → i < n + 1 → i < rows_of t → Dec (i ≡ n) → get_or l i 0 ≡ f i
+    has up i m k (yes q) = let low = up n some h in absurd (omega arith)
+    has up i m k (no q) = c.has up i (omega arith) k
+
+pub nests_left : (t around near : List ℕ) (n : ℕ) → n < rows_of t → 0 < n → rows_of t ≡ namer t n → Columns t around near n → Columns t around near (n + 1)
+nests_left t around near n h some e c = (
+  column_left t (λ i. loops t (above t i)) around n h some e c.0,
+  column_left t (λ i. near_loops t (above t i)) near n h some e c.1,
+)
+
+pub nests_step : (t : List ℕ) (nests : List Nest) (n p : ℕ) (il : Bool) (new : Nest) → n < rows_of t → rows_of t ≤ places → 0 < n → p ≡ namer t n
     → il ≡ is_loop (row t p)
     → (new.around ≡ (get_or nests p (record { around = 0; near = 0 })).around + one il) × (new.near ≡ cond il ((get_or nests p (record { around = 0; near = 0 })).near + 1) 0)
     → Columns t (around_of nests) (near_of nests) n → Columns t (around_of (set nests n new)) (near_of (set nests n new)) (n + 1)

@@ -3,7 +3,7 @@ use Prim.Native.Nat.{ℕ, suc, ◌+◌, ◌*◌, ◌-◌, ◌≤◌, ◌<◌}
 use mathlib.Core.Bool.{Bool, true, false, cond, ◌||◌}
 use mathlib.Core.List.{List}
 use mathlib.Core.Logic.{◌≢◌}
-use mathlib.Core.Path.{◌≡◌, refl, sym, ◌∙◌}
+use mathlib.Core.Path.{◌≡◌, refl, sym, ◌∙◌, ap}
 use lib.Dec.{ltb, eqb}
 use lib.LanesLaws.{map-replicate}
 use lib.ListN.{length, get_or, set, replicate, length-set, length-replicate, get_or-replicate, get_or-eq_default}
@@ -11,6 +11,9 @@ use lib.Seq.{get_or-set_same, get_or-set_other}
 use native.Mathlib.Decide.{ℕ_discrete, dec_lt}
 use native.Mathlib.Omega.{arith}
 use borrow.Author.Tests.{ltb-false, lt-ltb, le-ltb, eq-eqb, ne_eqb}
+use Rattle.std.specs.Prelude.{Some, None}
+use Rattle.std.specs.Option.{unwrap_or}
+use Rattle.std.proofs.lemmas.List.{get_or-map, length-map}
 use Rattle.words.specs.Rows.{rows_of}
 use Rattle.words.specs.Below.{lowest, sum, one}
 use Rattle.words.proofs.Below.{lowest_le}
@@ -21,7 +24,7 @@ use Rattle.table.specs.Above.{times, times_named, namer}
 use Rattle.table.specs.mirror.Names.{near_link, far_link}
 use Rattle.table.proofs.Links.{times_links}
 use Rattle.rules.specs.declared.Name.{Name}
-use Rattle.rules.specs.mirror.Names.{places, placed, named_by, times_of, Namers, Counts}
+use Rattle.rules.specs.mirror.Names.{places, placed, named_by, times_of, Namers, Inside, Counts}
 
 -- ---- one store
 
@@ -78,8 +81,8 @@ counted t i p = sum (λ q. times i (links (row t q))) p
 pub record Filling (t by count : List ℕ) (p : ℕ) : Type 0 where
   pub by_length : length by ≡ places
   pub count_length : length count ≡ places
-  pub low : (i : ℕ) → 0 < i → i ≤ rows_of t → lowest_or t i p (get_or by i 0) ≡ namer t i
-  pub all : (i : ℕ) → 0 < i → i ≤ rows_of t → get_or count i 0 + counted t i p ≡ times_named t i
+  pub low : (i : ℕ) → 0 < i → i < rows_of t → lowest_or t i p (get_or by i 0) ≡ namer t i
+  pub all : (i : ℕ) → 0 < i → i < rows_of t → get_or count i 0 + counted t i p ≡ times_named t i
   pub few : (i : ℕ) → get_or count i 0 + 2 * p ≤ 2 * rows_of t
 
 at_end : (b : Bool) (k n : ℕ) → ltb k n ≡ b → k ≤ n → cond b k n ≡ k
@@ -98,11 +101,32 @@ filling_start t h n e = record {
   few = λ i. rw (zeros places i) (omega arith);
 }
 
--- the same of the places as the loop has them
-pub names_start : (t : List ℕ) → rows_of t ≤ base.rows → Filling t (named_by (replicate places (record { by = rows_of t; times = 0 }))) (times_of (replicate places (record { by = rows_of t; times = 0 }))) (rows_of t)
-names_start t h =
-    rw (map-replicate (λ (n : Name). n.by) places (record { by = rows_of t; times = 0 }), map-replicate (λ (n : Name). n.times) places (record { by = rows_of t; times = 0 }))
-    (filling_start t h (rows_of t) refl)
+-- the places as the loop has them
+abbrev pub nobody : Name
+nobody = record { by = None; times = 0 }
+
+nobodies : (m i : ℕ) → get_or (named_by 0 (replicate m nobody)) i 0 ≡ 0
+nobodies m i = rw (map-replicate (λ (n : Name). unwrap_or n.by 0) m nobody) (zeros m i)
+
+pub names_start : (t : List ℕ) → rows_of t ≤ base.rows
+    → Filling t (named_by (rows_of t) (replicate places nobody)) (times_of (replicate places nobody)) (rows_of t) × Inside t (named_by 0 (replicate places nobody))
+names_start t h = (
+  rw (map-replicate (λ (n : Name). unwrap_or n.by (rows_of t)) places nobody, map-replicate (λ (n : Name). n.times) places nobody)
+      (filling_start t h (rows_of t) refl),
+  λ i. let e = nobodies places i in omega arith,
+)
+
+pub inside_step : (t by' : List ℕ) (names : List Name) (j x : ℕ) → x < rows_of t → length names ≡ places → by' ≡ placed (named_by 0 names) j x
+    → Inside t (named_by 0 names) → Inside t by'
+inside_step t by' names j x l long f h i = rw f (go (ℕ_discrete i j) (dec_lt i places))
+  where
+    e : length (named_by 0 names) ≡ places
+    e = length-map names (λ (n : Name). unwrap_or n.by 0) ∙ long
+
+    go : Dec (i ≡ j) → Dec (i < places) → get_or (placed (named_by 0 names) j x) i 0 ≤ rows_of t - 1
+    go (yes q) (yes m) = rw (← q, put_same (named_by 0 names) i x e m) (omega arith)
+    go (yes q) (no m) = rw (get_or-eq_default (placed (named_by 0 names) j x) 0 {n = i} (rw (put_length (named_by 0 names) j x) (omega (arith, e)))) (omega arith)
+    go (no q) m = rw (put_other (named_by 0 names) i j x q) (h i)
 
 ones : (a b : Bool) → ltb 0 (one a + one b) ≡ (a || b)
 ones true true = refl
@@ -125,7 +149,7 @@ more l j = placed l j (get_or l j 0 + 1)
 
 module _ (t by count : List ℕ) (p near far : ℕ) (small : rows_of t ≤ base.rows) (en : near ≡ near_link (row t p)) (ef : far ≡ far_link (row t p))
     (f : Filling t by count (suc p)) where
-  step_low : (i : ℕ) → 0 < i → i ≤ rows_of t → lowest_or t i p (get_or (placed (placed by near p) far p) i 0) ≡ namer t i
+  step_low : (i : ℕ) → 0 < i → i < rows_of t → lowest_or t i p (get_or (placed (placed by near p) far p) i 0) ≡ namer t i
   unfolding lowest
   step_low i l m =
       let q : i < places = omega arith in
@@ -134,7 +158,7 @@ module _ (t by count : List ℕ) (p near far : ℕ) (small : rows_of t ≤ base.
       (sym (low_step (eqb i near) (eqb i far) k p (get_or by i 0) (ltb k p) refl (lowest_le _ p))
       ∙ (rw (← ones (eqb i near) (eqb i far), en, ef, ← times_links i l (row t p)) (f.low i l m)))
 
-  step_all : (i : ℕ) → 0 < i → i ≤ rows_of t → get_or (more (more count near) far) i 0 + counted t i p ≡ times_named t i
+  step_all : (i : ℕ) → 0 < i → i < rows_of t → get_or (more (more count near) far) i 0 + counted t i p ≡ times_named t i
   unfolding sum
   step_all i l m =
       let q : i < places = omega arith in
@@ -176,3 +200,20 @@ filling_end t by count f = (f.low, λ i l m. let e = f.all i l m in omega arith)
 
 pub namer_le : (t : List ℕ) (i : ℕ) → namer t i ≤ rows_of t
 namer_le t i = lowest_le _ (rows_of t)
+
+-- ---- the places read
+
+module _ (t : List ℕ) (names : List Name) (i : ℕ) (long : i < length names) (some : 0 < i) (l : i < rows_of t) (by : Namers t (named_by (rows_of t) names)) where
+  pub named_none : (get_or names i nobody).by ≡ None → rows_of t ≡ namer t i
+  named_none e =
+      sym (ap (λ o. unwrap_or o (rows_of t)) e) ∙ (sym (get_or-map (λ (n : Name). unwrap_or n.by (rows_of t)) names i nobody 0 long) ∙ by i some l)
+
+  pub named_some : (over : ℕ) → (get_or names i nobody).by ≡ Some over → over ≡ namer t i
+  named_some over e =
+      sym (ap (λ o. unwrap_or o (rows_of t)) e) ∙ (sym (get_or-map (λ (n : Name). unwrap_or n.by (rows_of t)) names i nobody 0 long) ∙ by i some l)
+
+  pub named_inside : Inside t (named_by 0 names) → (over : ℕ) → (get_or names i nobody).by ≡ Some over → over < rows_of t
+  named_inside inside over e =
+      let same : get_or (named_by 0 names) i 0 ≡ over = get_or-map (λ (n : Name). unwrap_or n.by 0) names i nobody 0 long ∙ ap (λ o. unwrap_or o 0) e in
+      let low = inside i in
+      omega arith

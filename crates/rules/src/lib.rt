@@ -11,7 +11,7 @@ ghost use Rattle.table.specs.Rules.{named_broken, unbound_broken, unguarded_brok
 ghost use Rattle.table.specs.Check.{accepted, tested, Checks};
 ghost use Rattle.table.specs.Refusals.{number_of, verdict_of};
 ghost use Rattle.table.specs.mirror.Names.{Rising};
-ghost use Rattle.rules.specs.mirror.Names.{FewRows, placed, named_by, times_of, around_of, near_of, Namers, Counts, Around};
+ghost use Rattle.rules.specs.mirror.Names.{FewRows, placed, named_by, times_of, around_of, near_of, Namers, Inside, Counts, Around};
 ghost use Rattle.rules.specs.mirror.Chain.{repeated_of, chain_of};
 ghost use Rattle.rules.specs.mirror.Blame.{Refuses, IsLeast};
 
@@ -20,37 +20,35 @@ use words::word;
 
 // ---- rule 7: who names whom
 
-// One place more than a table has rows, since a link may name the row after the last. Place 0 means nothing: no rule asks who names row 0.
-const PLACES: usize = Table::ROWS + 1;
-
-// The lowest row with a link to a row (the number of rows for none), and how many links name it.
+// The lowest row with a link to a row, and how many links name it.
 #[derive(Clone, Copy, Debug, PartialEq, Eq)]
 struct Name {
-    by: u16,
+    by: Option<u16>,
     times: u16,
 }
 
 // The row names `to`: a place past the last is no row's, and is left out.
-fn add_name(names: &mut [Name; PLACES], to: usize, row: u16)
+fn add_name(names: &mut [Name; Table::ROWS], to: usize, row: u16)
     requires { get_or (times_of names.old) to 0 < 65535 }
-    ensures by { named_by names.new ≡ placed (named_by names.old) to row }
+    ensures by { (none : ℕ) → named_by none names.new ≡ placed (named_by none names.old) to row }
     ensures times { times_of names.new ≡ placed (times_of names.old) to (get_or (times_of names.old) to 0 + 1) }
 {
-    if to < PLACES {
+    if to < Table::ROWS {
         names[to] = Name {
-            by: row,
+            by: Some(row),
             times: names[to].times + 1,
         };
     }
 }
 
-// Who names each row of a table inside the limit.
+// Who names each row of a table inside the limit. Place 0 means nothing: no rule asks who names row 0.
 #[derive(Drop)]
 struct Names<'a> {
     words: &'a [u16],
-    rows: [Name; PLACES],
+    rows: [Name; Table::ROWS],
     ghost few: { FewRows words.now },
-    ghost by: { Namers words.now (named_by rows) },
+    ghost by: { Namers words.now (named_by (rows_of words.now) rows) },
+    ghost inside: { Inside words.now (named_by 0 rows) },
     ghost times: { Counts words.now (times_of rows) },
 }
 
@@ -61,10 +59,7 @@ impl<'a> Names<'a> {
         ensures { result.words.now ≡ words.now }
     {
         let count = words.len() / 4;
-        let mut rows = [Name {
-            by: count as u16,
-            times: 0,
-        }; PLACES];
+        let mut rows = [Name { by: None, times: 0 }; Table::ROWS];
         for row in (0..count).rev() {
             let this = read(words, row);
             add_name(&mut rows, this.near_link(), row as u16);
@@ -173,22 +168,23 @@ fn is_loop(words: &[u16], row: usize) -> bool
 #[derive(Drop)]
 struct Nests<'a> {
     words: &'a [u16],
-    rows: [Nest; PLACES],
+    rows: [Nest; Table::ROWS],
     ghost few: { FewRows words.now },
     ghost filled: { Around words.now (around_of rows) (near_of rows) },
 }
 
 impl<'a> Nests<'a> {
-    // Rows are taken from the first to the last, so the place of the row over each is filled before its own. Over a row that nobody names
-    // is the place after the last row.
+    // Rows are taken from the first to the last, so the place of the row over each is filled before its own.
     fn of(names: &Names<'a>) -> Nests<'a>
         ensures { result.words.now ≡ names.now.words.now }
     {
         let words = names.words;
-        let mut rows = [Nest { around: 0, near: 0 }; PLACES];
+        let mut rows = [Nest { around: 0, near: 0 }; Table::ROWS];
         for row in 1..words.len() / 4 {
-            let over = usize::from(names.rows[row].by);
-            rows[row] = rows[over].under(is_loop(words, over));
+            if let Some(over) = names.rows[row].by {
+                let over = usize::from(over);
+                rows[row] = rows[over].under(is_loop(words, over));
+            }
         }
         Nests { words, rows }
     }

@@ -1,26 +1,38 @@
 -- `rules::Names::of` meets its contract. Assumes nothing.
-use mathlib.Core.Path.{◌≡◌, ◌∙◌, ap}
+use mathlib.Core.Path.{◌≡◌, sym, ◌∙◌, ap}
+use Rattle.std.proofs.lemmas.List.{length-map}
+use Prim.Native.Nat.{◌-◌}
 use native.Mathlib.Omega.{arith}
+use Rattle.words.specs.Rows.{rows_of}
 use Rattle.table.specs.mirror.Names.{near_link, far_link}
 use Rattle.rules.specs.mirror.Names.{times_of}
-use Rattle.rules.proofs.Naming.{names_start, filling_turn, filling_end, put_bound}
+use Rattle.rules.proofs.Naming.{names_start, filling_turn, filling_end, inside_step, put_bound}
 use Rattle.rules.proofs.Names.of.Goals as goal
 
 pub loop-row-init : goal.loop-row-init
 loop-row-init c = names_start c.args.words.now (omega arith)
 
 pub add_name-requires : goal.add_name-requires
-add_name-requires c = omega (arith, c.loop-row.invariant.few c.near_link.result)
+add_name-requires c = omega (arith, c.loop-row.invariant.0.few c.near_link.result)
 
 pub add_name-requires-in-loop-row : goal.add_name-requires-in-loop-row
-add_name-requires-in-loop-row c = rw c.add_name.ensures.times (omega (arith, c.loop-row.invariant.few c.far_link.result, put_bound (times_of c.loop-row.rows) c.far_link.result c.near_link.result c.loop-row.invariant.count_length))
+add_name-requires-in-loop-row c = rw c.add_name.ensures.times (omega (arith, c.loop-row.invariant.0.few c.far_link.result, put_bound (times_of c.loop-row.rows) c.far_link.result c.near_link.result c.loop-row.invariant.0.count_length))
 
 pub loop-row-preserved : goal.loop-row-preserved
-loop-row-preserved c = filling_turn c.args.words.now _ _ _ _ _ _ c.loop-row.row _ _ (omega arith) (omega arith) (c.near_link.ensures ∙ ap near_link c.read-this.ensures) (c.far_link.ensures ∙ ap far_link c.read-this.ensures) (c.add_name.ensures.by, c.add_name.ensures.times) (c.add_name-in-loop-row.ensures.by, c.add_name-in-loop-row.ensures.times) c.loop-row.invariant
+loop-row-preserved c =
+    let t = c.args.words.now in
+    let one = c.add_name.ensures in
+    let two = c.add_name-in-loop-row.ensures in
+    let long = sym (length-map c.loop-row.rows (λ n. n.times)) ∙ c.loop-row.invariant.0.count_length in
+    let inside = inside_step t _ c.loop-row.rows c.near_link.result (c.loop-row.row - 1) (omega arith) long (one.by 0) c.loop-row.invariant.1 in (
+      filling_turn t _ _ _ _ _ _ c.loop-row.row _ _ (omega arith) (omega arith) (c.near_link.ensures ∙ ap near_link c.read-this.ensures)
+          (c.far_link.ensures ∙ ap far_link c.read-this.ensures) (one.by (rows_of t), one.times) (two.by (rows_of t), two.times) c.loop-row.invariant.0,
+      inside_step t _ c.add_name.new.names c.far_link.result (c.loop-row.row - 1) (omega arith) c.add_name.array_long (two.by 0) inside,
+    )
 
 -- what the places then say
 pub invariant_of-result-clause-by : goal.invariant_of-result-clause-by
-invariant_of-result-clause-by c = let e : c.loop-row.row ≡ 0 = omega arith in (filling_end c.args.words.now _ _ (rw e at c.loop-row.invariant)).0
+invariant_of-result-clause-by c = let e : c.loop-row.row ≡ 0 = omega arith in (filling_end c.args.words.now _ _ (rw e at c.loop-row.invariant.0)).0
 
 pub invariant_of-result-clause-times : goal.invariant_of-result-clause-times
-invariant_of-result-clause-times c = let e : c.loop-row.row ≡ 0 = omega arith in (filling_end c.args.words.now _ _ (rw e at c.loop-row.invariant)).1
+invariant_of-result-clause-times c = let e : c.loop-row.row ≡ 0 = omega arith in (filling_end c.args.words.now _ _ (rw e at c.loop-row.invariant.0)).1

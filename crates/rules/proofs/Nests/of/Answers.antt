@@ -1,24 +1,21 @@
 -- `rules::Nests::of` meets its contract. Assumes nothing.
-use mathlib.Core.Path.{◌≡◌, sym, ◌∙◌}
+use mathlib.Core.Path.{◌∙◌}
 use lib.ListN.{get_or-map}
 use native.Mathlib.Omega.{arith}
-use Rattle.table.specs.Above.{namer}
-use Rattle.rules.proofs.Naming.{namer_le}
-use Rattle.rules.proofs.Columns.{nests_start, nests_step, columns_end}
+use Rattle.rules.proofs.Columns.{nests_start, nests_step, nests_left, columns_end}
+use Rattle.rules.proofs.Naming.{named_none, named_some, named_inside}
 use Rattle.rules.proofs.Nests.of.Goals as goal
-use Rattle.rules.proofs.Nests.of.Goals.{After-from-over}
-
--- the row over this one
-over_is : (c : After-from-over) → c.from-over.result ≡ namer c.args.names.now.words.now c.loop-row.row
-over_is c =
-    let at = c.loop-row in
-    c.from-over.ensures ∙ (sym (get_or-map (λ n. n.by) c.args.names.now.rows at.row (record { by = 0; times = 0 })) ∙ c.args.names.now.by at.row (omega (arith, at.auto)) (omega arith))
+use Rattle.rules.proofs.Nests.of.Goals.{in-Some, in_default}
 
 pub loop-row-init : goal.loop-row-init
 loop-row-init c = nests_start c.args.names.now.words.now
 
 pub bounds-rows-over : goal.bounds-rows-over
-bounds-rows-over c = let e = over_is c in omega (arith, namer_le c.args.names.now.words.now c.loop-row.row)
+bounds-rows-over c =
+    let names = c.args.names.now in
+    let at = c.loop-row in
+    let low = named_inside names.words.now names.rows at.row (omega arith) (omega (arith, at.auto)) (omega arith) names.by names.inside c.in-Some.over c.in-Some.is in
+    omega arith
 
 pub under-requires : goal.under-requires
 under-requires c =
@@ -30,9 +27,20 @@ under-requires c =
 
 pub loop-row-preserved : goal.loop-row-preserved
 loop-row-preserved c =
+    let names = c.args.names.now in
+    let t = names.words.now in
     let at = c.loop-row in
-    nests_step c.args.names.now.words.now at.rows at.row c.from-over.result c.is_loop.result c.under.result c.loop-row-test.true (omega arith) (omega (arith, at.auto))
-    (over_is (goal.at.loop-row-preserved c).After-from-over) c.is_loop.ensures c.under.ensures at.invariant
+    elim c.match-names-row.branch [
+      | in-Some w ↦
+          rw w.rows-is
+          (nests_step t at.rows at.row w.from-over.result w.is_loop.result w.under.result (omega arith) (omega (arith, names.few)) (omega (arith, at.auto))
+          (w.from-over.ensures ∙ named_some t names.rows at.row (omega arith) (omega (arith, at.auto)) (omega arith) names.by w.in-Some.over w.in-Some.is)
+          w.is_loop.ensures w.under.ensures at.invariant)
+      | in_default w ↦
+          rw w.rows-is
+          (nests_left t _ _ at.row (omega arith) (omega (arith, at.auto))
+          (named_none t names.rows at.row (omega arith) (omega (arith, at.auto)) (omega arith) names.by w.in_default.is) at.invariant)
+    ]
 
 pub invariant_of-result-clause-filled : goal.invariant_of-result-clause-filled
 invariant_of-result-clause-filled c = columns_end c.args.names.now.words.now _ _ c.loop-row.row c.loop-row-test.false c.loop-row.invariant
