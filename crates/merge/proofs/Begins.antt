@@ -1,9 +1,8 @@
 -- What two parts open in common: actions with one arm each, of one label. Their merge is that of what stands inside, inside the same
 -- actions. Assumes nothing.
-use Prim.Native.Nat.{ℕ, zero, suc, ◌+◌, ◌<◌, ◌≤◌, ◌%◌}
+use Prim.Native.Nat.{ℕ, zero, suc, ◌+◌, ◌<◌, ◌≤◌}
 use mathlib.Core.Bool.{Bool, true, false, cond, ◌&&◌, ◌||◌, true≢false}
 use mathlib.Core.List.{List, [], ◌∷◌, ◌++◌, append_assoc, append-nil}
-use mathlib.Core.Logic.{◌⊎◌, inl, inr, ⊎_elim}
 use mathlib.Core.Option.{Option, none, some, bind}
 use mathlib.Core.Path.{◌≡◌, refl, sym, ◌∙◌, ap, ap₂, subst}
 use native.Mathlib.Decide.{ℕ_discrete}
@@ -19,7 +18,9 @@ use Rattle.parts.specs.Merge.{only_if, same_labels, merge, merge_arms}
 use Rattle.parts.specs.mirror.Codes.{code, codes, codes_arms}
 use Rattle.parts.proofs.Rising.{no_label, Rising, r_send, r_receive, r_arm, shared}
 use Rattle.parts.proofs.Words.{Stands, stands_arm, words_arm, words_some_arms}
-use Rattle.merge.specs.mirror.Merging.{shares, common_on, closes, put_marks}
+use Rattle.parts.specs.mirror.Kinds.{code_of}
+use Rattle.parts.proofs.Read.{code_is}
+use Rattle.merge.specs.mirror.Merging.{is_arm, is_action, shares, common_on, closes, put_marks}
 use Rattle.merge.specs.declared.Common.{Common}
 
 -- so many marks
@@ -194,15 +195,15 @@ pub record Found (s : List ℕ) (x y j : ℕ) (P Q : Part) (c : Common) : Type 0
 data Opens : Part → Type 0 where
   opens_act : (b : Bool) (q l : ℕ) (P : Part) (ps : PartArms) → Opens (act b q (p_arm l P ps))
 
-is_act : (P : Part) (s : List ℕ) (x : ℕ) → Stands s x (codes P) → (get_or s x 0 % 8 ≡ 5) ⊎ (get_or s x 0 % 8 ≡ 6) → get_or s (suc x) 0 % 8 ≡ 2 → Opens P
+is_act : (P : Part) (s : List ℕ) (x : ℕ) → Stands s x (codes P) → is_action (code_of (get_or s x 0)) ≡ true → is_arm (code_of (get_or s (suc x) 0)) ≡ true → Opens P
 unfolding codes
-is_act p_end s x h k a = absurd (⊎_elim (λ e. omega (arith, h.0)) (λ e. omega (arith, h.0)) k)
-is_act (p_send q p_nil) s x h k a = absurd (omega (arith, h.1.0))
+is_act p_end s x h k a = absurd (true≢false (sym (rw h.0 at k)))
+is_act (p_send q p_nil) s x h k a = absurd (true≢false (sym (rw h.1.0 at a)))
 is_act (p_send q (p_arm l P ps)) s x h k a = opens_act true q l P ps
-is_act (p_receive q p_nil) s x h k a = absurd (omega (arith, h.1.0))
+is_act (p_receive q p_nil) s x h k a = absurd (true≢false (sym (rw h.1.0 at a)))
 is_act (p_receive q (p_arm l P ps)) s x h k a = opens_act false q l P ps
-is_act (p_loop P) s x h k a = absurd (⊎_elim (λ e. omega (arith, h.0)) (λ e. omega (arith, h.0)) k)
-is_act (p_back d) s x h k a = absurd (⊎_elim (λ e. omega (arith, h.0)) (λ e. omega (arith, h.0)) k)
+is_act (p_loop P) s x h k a = absurd (true≢false (sym (rw h.0 at k)))
+is_act (p_back d) s x h k a = absurd (true≢false (sym (rw (h.0, code_is 4 d (omega arith)) at k)))
 
 act_rising : (b : Bool) (q l : ℕ) (P : Part) (ps : PartArms) → Rising (act b q (p_arm l P ps)) → Rising P
 act_rising true q l P ps (r_send (r_arm a p h)) = p
@@ -216,32 +217,27 @@ kinds_same false false q j e = (refl, omega arith)
 
 -- what the test says
 shares_is : (s : List ℕ) (x y : ℕ) → shares s x y ≡ true
-    → (x < length s) × (y < length s) × ((get_or s x 0 % 8 ≡ 5) ⊎ (get_or s x 0 % 8 ≡ 6)) × (get_or s x 0 ≡ get_or s y 0) × (get_or s (suc x) 0 % 8 ≡ 2) × (get_or s (suc x) 0 ≡ get_or s (suc y) 0)
+    → (x < length s) × (y < length s) × (is_action (code_of (get_or s x 0)) ≡ true) × (get_or s x 0 ≡ get_or s y 0) × (is_arm (code_of (get_or s (suc x) 0)) ≡ true) × (get_or s (suc x) 0 ≡ get_or s (suc y) 0)
 unfolding shares
 shares_is s x y e = go (leb (length s) x || leb (length s) y) refl
   where
     go : (c : Bool) → (leb (length s) x || leb (length s) y) ≡ c
-        → (x < length s) × (y < length s) × ((get_or s x 0 % 8 ≡ 5) ⊎ (get_or s x 0 % 8 ≡ 6)) × (get_or s x 0 ≡ get_or s y 0) × (get_or s (suc x) 0 % 8 ≡ 2) × (get_or s (suc x) 0 ≡ get_or s (suc y) 0)
+        → (x < length s) × (y < length s) × (is_action (code_of (get_or s x 0)) ≡ true) × (get_or s x 0 ≡ get_or s y 0) × (is_arm (code_of (get_or s (suc x) 0)) ≡ true) × (get_or s (suc x) 0 ≡ get_or s (suc y) 0)
     go true f = absurd (true≢false (sym (rw f at e)))
     go false f =
         let (p, q) = or_neither (leb (length s) x) (leb (length s) y) f in
         let (r₁, same') = and_both _ (eqb (get_or s (x + 1) 0) (get_or s (y + 1) 0)) (rw f at e) in
-        let (r₂, arm) = and_both _ (eqb (get_or s (x + 1) 0 % 8) 2) r₁ in
-        let (acts, same) = and_both (eqb (get_or s x 0 % 8) 5 || eqb (get_or s x 0 % 8) 6) (eqb (get_or s x 0) (get_or s y 0)) r₂ in
+        let (r₂, arm) = and_both _ (is_arm (code_of (get_or s (x + 1) 0))) r₁ in
+        let (acts, same) = and_both (is_action (code_of (get_or s x 0))) (eqb (get_or s x 0) (get_or s y 0)) r₂ in
         let i : x + 1 ≡ suc x = omega arith in
         let j : y + 1 ≡ suc y = omega arith in (
           leb-false (length s) x p,
           leb-false (length s) y q,
-          one (eqb (get_or s x 0 % 8) 5) (eqb (get_or s x 0 % 8) 6) refl refl acts,
+          acts,
           eqb-true (get_or s x 0) (get_or s y 0) same,
-          rw i at (eqb-true (get_or s (x + 1) 0 % 8) 2 arm),
+          rw i at arm,
           rw (i, j) at (eqb-true (get_or s (x + 1) 0) (get_or s (y + 1) 0) same'),
         )
-      where
-        one : (c d : Bool) → eqb (get_or s x 0 % 8) 5 ≡ c → eqb (get_or s x 0 % 8) 6 ≡ d → (c || d) ≡ true → (get_or s x 0 % 8 ≡ 5) ⊎ (get_or s x 0 % 8 ≡ 6)
-        one true d f g h = inl (eqb-true (get_or s x 0 % 8) 5 f)
-        one false true f g h = inr (eqb-true (get_or s x 0 % 8) 6 g)
-        one false false f g h = absurd (true≢false (sym h))
 
 -- nothing is opened in common
 found_here : (s : List ℕ) (x y j : ℕ) (P Q : Part) → Rising P → Rising Q → Stands s x (codes P) → Stands s y (codes Q) → Found s x y j P Q (record { a = x; b = y; marks = j })
@@ -312,7 +308,7 @@ common_is (suc n) s x y j P Q p q g h = go (shares s x y) refl (λ P Q. common_i
         → Found s x y j P Q (cond c (common_on n s (x + 2) (y + 2) (j + 1)) (record { a = x; b = y; marks = j }))
     go true e more =
         let (lx, ly, acts, same, arm, same') = shares_is s x y e in
-        let second : (get_or s y 0 % 8 ≡ 5) ⊎ (get_or s y 0 % 8 ≡ 6) = rw same at acts in
+        let second = rw same at acts in
         both_open s x y j P Q (common_on n s (x + 2) (y + 2) (j + 1)) (is_act P s x g acts arm) (is_act Q s y h second (rw same' at arm)) p q g h same same' more
     go false e more = found_here s x y j P Q p q g h
 

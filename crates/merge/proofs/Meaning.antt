@@ -1,24 +1,32 @@
 -- What the merge's mirror does with the words of two parts in rising order: it writes the words of their merge, and answers not ok
 -- exactly where they have none. Assumes nothing.
-use Prim.Native.Nat.{ℕ, zero, suc, ◌+◌, ◌≤◌, ◌<◌, ◌%◌}
+use Prim.Native.Nat.{ℕ, zero, suc, ◌+◌, ◌≤◌, ◌<◌}
 use mathlib.Core.Bool.{Bool, true, false, cond}
 use mathlib.Core.List.{List, [], ◌∷◌, ◌++◌}
 use mathlib.Core.Option.{Option, none, some, bind}
+use Rattle.std.specs.Prelude.{Option as StdOption, Some, None}
 use mathlib.Core.Path.{◌≡◌, refl, sym, ◌∙◌}
 use native.Mathlib.Decide.{ℕ_discrete}
 use native.Mathlib.Omega.{arith}
-use lib.Dec.{eqb, ltb}
+use lib.Dec.{ltb}
 use lib.ListN.{length, get_or, set, length-append}
 use lib.Seq.{sets}
 use borrow.Author.Tests.{ltb-true, ltb-false, eq-eqb, ne_eqb, lt-ltb, le-ltb}
 use Rattle.parts.specs.Part.{Part, p_end, p_send, p_receive, p_loop, p_back, PartArms, p_nil, p_arm}
 use Rattle.parts.specs.Merge.{only_if, same_labels, merge, merge_arms}
 use Rattle.parts.specs.mirror.Codes.{code, codes, codes_arms}
-use Rattle.merge.specs.mirror.Merging.{MOST, Merge, rule, equal_rule, arm_rule, step_of, step_out, copy_of, after, merge_body, merge_of}
+use Rattle.parts.specs.declared.Code.{Code}
+use Rattle.parts.specs.declared.Code.TheVariants.{End, Mark, Arm, Loop, Back, Send, Receive}
+use Rattle.parts.specs.mirror.Kinds.{code_of}
+use Rattle.merge.specs.declared.Rule.{Rule}
+use Rattle.merge.specs.declared.Rule.TheVariants.{Leaf, Inside, First, Second, Both}
+use Rattle.parts.proofs.Read.{code_is}
+use native.Mathlib.Numerals.{sub-one}
+use Rattle.merge.specs.mirror.Merging.{MOST, Merge, rule, equal_rule, arm_rule, stepped, own_word, step_of, step_out, copy_of, after, merge_body, merge_of}
 use Rattle.parts.proofs.Rising.{Above, label, no_label, above_above, Rising, r_send, r_receive, r_loop, RisingArms, r_arm, first_alone, second_alone, shared}
 use Rattle.parts.proofs.Sizes.{merge_words}
 use Rattle.parts.proofs.Words.{Stands, stands_arm, sets_append, words_some, words_some_arms, words_arm}
-use Rattle.merge.proofs.Copies.{kind_of, is_inside, copy_part}
+use Rattle.merge.proofs.Copies.{is_inside, copy_part}
 
 -- the words ws are written from `at` on, and the places behind the two sides are a and b
 abbrev pub wrote : ℕ → ℕ → List ℕ → ℕ → List ℕ → Merge
@@ -41,50 +49,50 @@ gives_on words words' f u e a b o at t et (some x) m h =
 
 -- ---- the rules
 
-rule_none : (x y : ℕ) → (x ≡ y → ⊥) → (x % 8 ≡ 2 → ⊥) → (y % 8 ≡ 2 → ⊥) → rule false x y ≡ 0
-unfolding rule arm_rule
-rule_none x y n p q = rw (ne_eqb x y n, ne_eqb (x % 8) 2 p, ne_eqb (y % 8) 2 q)
-
-rule_same : (exact : Bool) (x y k r : ℕ) → x ≡ y → x % 8 ≡ k → equal_rule k ≡ r → rule exact x y ≡ r
+rule_none : (x y : ℕ) (c d : Code) → (x ≡ y → ⊥) → code_of x ≡ c → code_of y ≡ d → arm_rule c d ≡ None → rule false x y ≡ None
 unfolding rule
-rule_same exact x y k r e h f = rw (eq-eqb x y e, h, f)
+rule_none x y c d n ec ed e = rw (ne_eqb x y n, ec, ed, e)
+
+rule_same : (exact : Bool) (x y : ℕ) (c : Code) → x ≡ y → code_of x ≡ c → rule exact x y ≡ Some (equal_rule c)
+unfolding rule
+rule_same exact x y c e h = rw (eq-eqb x y e, h)
 
 -- arms of two sends that differ
-rule_exact : (x y : ℕ) → (x ≡ y → ⊥) → rule true x y ≡ 0
+rule_exact : (x y : ℕ) → (x ≡ y → ⊥) → rule true x y ≡ None
 unfolding rule
 rule_exact x y n = rw (ne_eqb x y n)
 
-rule_first_last : (l : ℕ) → rule false (code 2 l) 1 ≡ 4
-unfolding rule arm_rule
-rule_first_last l = rw (ne_eqb (code 2 l) 1 (λ e. omega arith), kind_of 2 l (omega arith))
+rule_first_last : (l : ℕ) → rule false (code 2 l) 1 ≡ Some First
+unfolding rule
+rule_first_last l = rw (ne_eqb (code 2 l) 1 (λ e. omega arith), code_is 2 l (omega arith))
 
-rule_second_last : (l : ℕ) → rule false 1 (code 2 l) ≡ 5
-unfolding rule arm_rule
-rule_second_last l = rw (ne_eqb 1 (code 2 l) (λ e. omega arith), kind_of 2 l (omega arith))
+rule_second_last : (l : ℕ) → rule false 1 (code 2 l) ≡ Some Second
+unfolding rule
+rule_second_last l = rw (ne_eqb 1 (code 2 l) (λ e. omega arith), code_is 2 l (omega arith))
 
-rule_first : (l k : ℕ) → l < k → rule false (code 2 l) (code 2 k) ≡ 4
-unfolding rule arm_rule
+rule_first : (l k : ℕ) → l < k → rule false (code 2 l) (code 2 k) ≡ Some First
+unfolding rule
 rule_first l k h =
-    rw (ne_eqb (code 2 l) (code 2 k) (λ e. omega arith), kind_of 2 l (omega arith), kind_of 2 k (omega arith), lt-ltb (code 2 l) (code 2 k) (omega arith))
+    rw (ne_eqb (code 2 l) (code 2 k) (λ e. omega arith), code_is 2 l (omega arith), code_is 2 k (omega arith), lt-ltb l k h)
 
-rule_second : (l k : ℕ) → k < l → rule false (code 2 l) (code 2 k) ≡ 5
-unfolding rule arm_rule
+rule_second : (l k : ℕ) → k < l → rule false (code 2 l) (code 2 k) ≡ Some Second
+unfolding rule
 rule_second l k h =
-    rw (ne_eqb (code 2 l) (code 2 k) (λ e. omega arith), kind_of 2 l (omega arith), kind_of 2 k (omega arith), le-ltb (code 2 l) (code 2 k) (omega arith))
+    rw (ne_eqb (code 2 l) (code 2 k) (λ e. omega arith), code_is 2 l (omega arith), code_is 2 k (omega arith), le-ltb l k (omega arith))
 
 -- ---- one call
 
 -- a call at the words x and y, whose rule is k
-enter : (exact : Bool) (n : ℕ) (s : List ℕ) (a b : ℕ) (o : List ℕ) (at x y k : ℕ) → get_or s a 0 ≡ x → get_or s b 0 ≡ y → rule exact x y ≡ k
+enter : (exact : Bool) (n : ℕ) (s : List ℕ) (a b : ℕ) (o : List ℕ) (at x y : ℕ) (k : StdOption Rule) → get_or s a 0 ≡ x → get_or s b 0 ≡ y → rule exact x y ≡ k
     → a < length s → b < length s → at < MOST
     → merge_of (suc n) exact s a b o at
-    ≡ merge_body (copy_of s) (λ e. merge_of n e s) (record { rule = k; a = suc a; b = suc b; at = suc at; left = n }) exact a b (set o at (cond (eqb k 5) y x)) at
+    ≡ merge_body (copy_of s) (λ e. merge_of n e s) (stepped (record { a = suc a; b = suc b; at = suc at; left = n }) k) exact a b (set o at (own_word k x y)) at
 unfolding merge_of step_of step_out
 enter exact n s a b o at x y k ex ey ek q r t =
     let i : a + 1 ≡ suc a = omega arith in
     let j : b + 1 ≡ suc b = omega arith in
     let m : at + 1 ≡ suc at = omega arith in
-    rw (is_inside (suc n) (length s) a b at (omega arith) q r t, ex, ey, ek, i, j, m)
+    rw (is_inside (suc n) (length s) a b at (omega arith) q r t, ex, ey, ek, i, j, m, sub-one)
 
 -- what is to be shown of a call with n rows left
 abbrev Merges : ℕ → Part → Part → Type 0
@@ -124,12 +132,27 @@ head_stands (p_receive q ps) s a h = h.0
 head_stands (p_loop P) s a h = h.0
 head_stands (p_back k) s a h = h.0
 
-head_kind : (P : Part) → head P % 8 ≡ 2 → ⊥
-head_kind p_end e = omega arith
-head_kind (p_send q ps) e = omega arith
-head_kind (p_receive q ps) e = omega arith
-head_kind (p_loop P) e = omega arith
-head_kind (p_back k) e = omega arith
+-- what it stands for: neither an arm nor a mark
+abbrev head_code : Part → Code
+head_code p_end = End
+head_code (p_send q ps) = Send q
+head_code (p_receive q ps) = Receive q
+head_code (p_loop P) = Loop
+head_code (p_back k) = Back k
+
+head_read : (P : Part) → code_of (head P) ≡ head_code P
+head_read p_end = refl
+head_read (p_send q ps) = code_is 5 q (omega arith)
+head_read (p_receive q ps) = code_is 6 q (omega arith)
+head_read (p_loop P) = refl
+head_read (p_back k) = code_is 4 k (omega arith)
+
+head_alone : (P : Part) (d : Code) → arm_rule (head_code P) d ≡ None
+head_alone p_end d = refl
+head_alone (p_send q ps) d = refl
+head_alone (p_receive q ps) d = refl
+head_alone (p_loop P) d = refl
+head_alone (p_back k) d = refl
 
 -- two parts whose first words differ have no merge
 unlike : (n : ℕ) (P Q : Part) (s : List ℕ) (a b : ℕ) (o : List ℕ) (at : ℕ) → Stands s a (codes P) → Stands s b (codes Q)
@@ -139,7 +162,8 @@ unlike n P Q s a b o at g h q r t d =
     let u = words_some P in
     let v = words_some Q in
     rw
-    (enter false n s a b o at (head P) (head Q) 0 (head_stands P s a g) (head_stands Q s b h) (rule_none (head P) (head Q) d (head_kind P) (head_kind Q))
+    (enter false n s a b o at (head P) (head Q) None (head_stands P s a g) (head_stands Q s b h)
+    (rule_none (head P) (head Q) (head_code P) (head_code Q) d (head_read P) (head_read Q) (head_alone P (head_code Q)))
     (omega arith) (omega arith) (omega arith))
 
 apart : (n : ℕ) (P Q : Part) → merge P Q ≡ none → (head P ≡ head Q → ⊥) → Merges (suc n) P Q
@@ -147,15 +171,15 @@ apart n P Q e d s a b o at a' b' u v g h l p q r ea eb = rw e (unlike n P Q s a 
 
 -- two rows without children
 ends : (n : ℕ) → Merges (suc n) p_end p_end
-unfolding merge codes equal_rule
+unfolding merge codes
 ends n s a b o at a' b' u v g h l p q r ea eb =
     let i : suc a ≡ a' = omega arith in
     let j : suc b ≡ b' = omega arith in
     let m : at + suc zero ≡ suc at = omega arith in
-    enter false n s a b o at 0 0 1 g.0 h.0 (rule_same false 0 0 0 1 refl refl refl) (omega arith) (omega arith) (omega arith) ∙ rw (i, j, m)
+    enter false n s a b o at 0 0 (Some Leaf) g.0 h.0 (rule_same false 0 0 End refl refl) (omega arith) (omega arith) (omega arith) ∙ rw (i, j, m)
 
 backs : (n k j : ℕ) → Merges (suc n) (p_back k) (p_back j)
-unfolding merge codes equal_rule only_if
+unfolding merge codes only_if
 backs n k j s a b o at a' b' u v g h l p q r ea eb = go (ℕ_discrete k j)
   where
     go : (d : Dec (k ≡ j)) → Gives codes a' b' o at (only_if d (some (p_back k))) (merge_of (suc n) false s a b o at)
@@ -163,26 +187,26 @@ backs n k j s a b o at a' b' u v g h l p q r ea eb = go (ℕ_discrete k j)
         let i : suc a ≡ a' = omega arith in
         let f : suc b ≡ b' = omega arith in
         let m : at + suc zero ≡ suc at = omega arith in
-        enter false n s a b o at (code 4 k) (code 4 j) 1 g.0 h.0 (rule_same false (code 4 k) (code 4 j) 4 1 (rw e) (kind_of 4 k (omega arith)) refl) (omega arith) (omega arith) (omega arith)
+        enter false n s a b o at (code 4 k) (code 4 j) (Some Leaf) g.0 h.0 (rule_same false (code 4 k) (code 4 j) (Back k) (rw e) (code_is 4 k (omega arith))) (omega arith) (omega arith) (omega arith)
         ∙ rw (i, f, m)
     go (no d) = unlike n (p_back k) (p_back j) s a b o at g h p q r (λ e. d (omega arith))
 
 -- two loops, by their bodies
 loops : (n : ℕ) (P Q : Part) → Merges n P Q → Merges (suc n) (p_loop P) (p_loop Q)
-unfolding merge codes equal_rule
+unfolding merge codes
 loops n P Q ih s a b o at a' b' (r_loop u) (r_loop v) g h l p q r ea eb =
-    rw (enter false n s a b o at 3 3 2 g.0 h.0 (rule_same false 3 3 3 2 refl refl refl) (omega arith) (omega arith) (omega arith))
+    rw (enter false n s a b o at 3 3 (Some (Inside false)) g.0 h.0 (rule_same false 3 3 Loop refl refl) (omega arith) (omega arith) (omega arith))
     (gives_on codes codes p_loop (3 ∷ []) (λ M. refl) a' b' o at (suc at) (omega arith) (merge P Q) (merge_of n false s (suc a) (suc b) (set o at 3) (suc at))
     (ih s (suc a) (suc b) (set o at 3) (suc at) a' b' u v g.1 h.1 (omega arith) (omega arith) (omega arith) (omega arith) (omega arith) (omega arith)))
 
 -- two receives, by their arms
 receives : (n k j : ℕ) (ps qs : PartArms) → MergesArms false n ps qs → Merges (suc n) (p_receive k ps) (p_receive j qs)
-unfolding merge codes equal_rule only_if
+unfolding merge codes only_if
 receives n k j ps qs ih s a b o at a' b' (r_receive u) (r_receive v) g h l p q r ea eb = go (ℕ_discrete k j)
   where
     go : (d : Dec (k ≡ j)) → Gives codes a' b' o at (only_if d (bind (merge_arms ps qs) (λ ms. some (p_receive k ms)))) (merge_of (suc n) false s a b o at)
     go (yes e) =
-        rw (enter false n s a b o at (code 6 k) (code 6 j) 2 g.0 h.0 (rule_same false (code 6 k) (code 6 j) 6 2 (rw e) (kind_of 6 k (omega arith)) refl) (omega arith) (omega arith) (omega arith))
+        rw (enter false n s a b o at (code 6 k) (code 6 j) (Some (Inside false)) g.0 h.0 (rule_same false (code 6 k) (code 6 j) (Receive k) (rw e) (code_is 6 k (omega arith))) (omega arith) (omega arith) (omega arith))
         (gives_on codes_arms codes (λ ms. p_receive k ms) (code 6 k ∷ []) (λ ms. refl) a' b' o at (suc at) (omega arith) (merge_arms ps qs) (merge_of n false s (suc a) (suc b) (set o at (code 6 k)) (suc at))
         (ih s (suc a) (suc b) (set o at (code 6 k)) (suc at) a' b' u v g.1 h.1 (omega arith) (omega arith) (omega arith) (omega arith) (omega arith) (omega arith)))
     go (no d) = unlike n (p_receive k ps) (p_receive j qs) s a b o at g h p q r (λ e. d (omega arith))
@@ -194,14 +218,14 @@ cond_bind false X f = refl
 
 -- two sends, by their arms, which have the same labels
 sends : (n k j : ℕ) (ps qs : PartArms) → MergesArms true n ps qs → Merges (suc n) (p_send k ps) (p_send j qs)
-unfolding merge codes equal_rule only_if
+unfolding merge codes only_if
 sends n k j ps qs ih s a b o at a' b' (r_send u) (r_send v) g h l p q r ea eb = go (ℕ_discrete k j)
   where
     go : (d : Dec (k ≡ j)) → Gives codes a' b' o at (only_if d (cond (same_labels ps qs) (bind (merge_arms ps qs) (λ ms. some (p_send k ms))) none)) (merge_of (suc n) false s a b o at)
     go (yes e) =
         rw (
           cond_bind (same_labels ps qs) (merge_arms ps qs) (λ ms. some (p_send k ms)),
-          enter false n s a b o at (code 5 k) (code 5 j) 3 g.0 h.0 (rule_same false (code 5 k) (code 5 j) 5 3 (rw e) (kind_of 5 k (omega arith)) refl) (omega arith) (omega arith) (omega arith),
+          enter false n s a b o at (code 5 k) (code 5 j) (Some (Inside true)) g.0 h.0 (rule_same false (code 5 k) (code 5 j) (Send k) (rw e) (code_is 5 k (omega arith))) (omega arith) (omega arith) (omega arith),
         )
         (gives_on codes_arms codes (λ ms. p_send k ms) (code 5 k ∷ []) (λ ms. refl) a' b' o at (suc at) (omega arith) (arms_by true ps qs) (merge_of n true s (suc a) (suc b) (set o at (code 5 k)) (suc at))
         (ih s (suc a) (suc b) (set o at (code 5 k)) (suc at) a' b' u v g.1 h.1 (omega arith) (omega arith) (omega arith) (omega arith) (omega arith) (omega arith)))
@@ -210,7 +234,7 @@ sends n k j ps qs ih s a b o at a' b' (r_send u) (r_send v) g h l p q r ea eb = 
 -- ---- arms
 
 -- the next arm of the first list alone, given the rest; y is the second list's first word
-first_arm : (n l : ℕ) (P : Part) (ps qs : PartArms) → MergesArms false n ps qs → Above l qs → (y : ℕ) → rule false (code 2 l) y ≡ 4
+first_arm : (n l : ℕ) (P : Part) (ps qs : PartArms) → MergesArms false n ps qs → Above l qs → (y : ℕ) → rule false (code 2 l) y ≡ Some First
     → (s : List ℕ) (a b : ℕ) (o : List ℕ) (at a' b' : ℕ) → get_or s b 0 ≡ y → RisingArms (p_arm l P ps) → RisingArms qs → Stands s a (codes_arms (p_arm l P ps)) → Stands s b (codes_arms qs)
     → length (codes_arms (p_arm l P ps)) + length (codes_arms qs) ≤ suc n → a + length (codes_arms (p_arm l P ps)) ≤ length s → b + length (codes_arms qs) ≤ length s
     → at + length (codes_arms (p_arm l P ps)) + length (codes_arms qs) ≤ MOST → a' ≡ a + length (codes_arms (p_arm l P ps)) → b' ≡ b + length (codes_arms qs)
@@ -227,14 +251,14 @@ first_arm n l P ps qs ih below y er s a b o at a' b' ey (r_arm above u us) v g h
     let w₃ = words_some_arms qs in
     rw (
       first_alone P above below,
-      enter false n s a b o at (code 2 l) y 4 eg ey er (omega arith) (omega arith) (omega arith),
+      enter false n s a b o at (code 2 l) y (Some First) eg ey er (omega arith) (omega arith) (omega arith),
       copy_part P s (suc a) i (suc at) gp (omega arith) (omega arith),
     )
     (gives_on codes_arms codes_arms (λ ms. p_arm l P ms) (code 2 l ∷ codes P) (λ ms. refl) a' b' o at t (omega arith) (merge_arms ps qs) (merge_of n false s c b (sets i (suc at) (codes P)) t)
     (ih s c b (sets i (suc at) (codes P)) t a' b' us v gs h (omega arith) (omega arith) (omega arith) (omega arith) (omega arith) (omega arith)))
 
 -- the next arm of the second list alone, given the rest; x is the first list's first word
-second_arm : (n k : ℕ) (Q : Part) (ps qs : PartArms) → MergesArms false n ps qs → Above k ps → (x : ℕ) → rule false x (code 2 k) ≡ 5
+second_arm : (n k : ℕ) (Q : Part) (ps qs : PartArms) → MergesArms false n ps qs → Above k ps → (x : ℕ) → rule false x (code 2 k) ≡ Some Second
     → (s : List ℕ) (a b : ℕ) (o : List ℕ) (at a' b' : ℕ) → get_or s a 0 ≡ x → RisingArms ps → RisingArms (p_arm k Q qs) → Stands s a (codes_arms ps) → Stands s b (codes_arms (p_arm k Q qs))
     → length (codes_arms ps) + length (codes_arms (p_arm k Q qs)) ≤ suc n → a + length (codes_arms ps) ≤ length s → b + length (codes_arms (p_arm k Q qs)) ≤ length s
     → at + length (codes_arms ps) + length (codes_arms (p_arm k Q qs)) ≤ MOST → a' ≡ a + length (codes_arms ps) → b' ≡ b + length (codes_arms (p_arm k Q qs))
@@ -251,7 +275,7 @@ second_arm n k Q ps qs ih below x er s a b o at a' b' ex u (r_arm above v vs) g 
     let w₃ = words_some_arms qs in
     rw (
       second_alone Q qs below,
-      enter false n s a b o at x (code 2 k) 5 ex eh er (omega arith) (omega arith) (omega arith),
+      enter false n s a b o at x (code 2 k) (Some Second) ex eh er (omega arith) (omega arith) (omega arith),
       copy_part Q s (suc b) i (suc at) hq (omega arith) (omega arith),
     )
     (gives_on codes_arms codes_arms (λ ms. p_arm k Q ms) (code 2 k ∷ codes Q) (λ ms. refl) a' b' o at t (omega arith) (merge_arms ps qs) (merge_of n false s a c (sets i (suc at) (codes Q)) t)
@@ -286,7 +310,7 @@ shared_by true {l} P Q {ps} {qs} above below = rw (eq-eqb l l refl, shared P Q a
 
 -- an arm of one label on both sides, given its part and the rest
 shared_arm : (exact : Bool) (n l k : ℕ) (P Q : Part) (ps qs : PartArms) → Merges n P Q → MergesArms exact n ps qs → l ≡ k → MergesArms exact (suc n) (p_arm l P ps) (p_arm k Q qs)
-unfolding codes equal_rule
+unfolding codes
 shared_arm exact n l k P Q ps qs ip ia e s a b o at a' b' (r_arm above u us) (r_arm below v vs) g h len p q r ea eb =
     let f : k ≡ l = sym e in
     let c = suc a + length (codes P) in
@@ -304,7 +328,7 @@ shared_arm exact n l k P Q ps qs ip ia e s a b o at a' b' (r_arm above u us) (r_
     rw (
       f,
       shared_by exact P Q above (rw f at below),
-      enter exact n s a b o at (code 2 l) (code 2 k) 6 eg eh (rule_same exact (code 2 l) (code 2 k) 2 6 (rw e) (kind_of 2 l (omega arith)) refl) (omega arith) (omega arith) (omega arith),
+      enter exact n s a b o at (code 2 l) (code 2 k) (Some Both) eg eh (rule_same exact (code 2 l) (code 2 k) (Arm l) (rw e) (code_is 2 l (omega arith))) (omega arith) (omega arith) (omega arith),
     )
     (shared_rest l (arms_by exact ps qs) (merge_of n exact s) c d a' b' o at (merge P Q) (merge_of n false s (suc a) (suc b) i (suc at)) one
     (λ M m.
@@ -314,12 +338,12 @@ shared_arm exact n l k P Q ps qs ip ia e s a b o at a' b' (r_arm above u us) (r_
 
 -- the marks behind two last arms
 nils : (exact : Bool) (n : ℕ) → MergesArms exact (suc n) p_nil p_nil
-unfolding merge same_labels codes equal_rule
+unfolding merge same_labels codes
 nils exact n s a b o at a' b' u v g h l p q r ea eb =
     let i : suc a ≡ a' = omega arith in
     let j : suc b ≡ b' = omega arith in
     let m : at + suc zero ≡ suc at = omega arith in
-    go exact (enter exact n s a b o at 1 1 1 g.0 h.0 (rule_same exact 1 1 1 1 refl refl refl) (omega arith) (omega arith) (omega arith) ∙ rw (i, j, m))
+    go exact (enter exact n s a b o at 1 1 (Some Leaf) g.0 h.0 (rule_same exact 1 1 Mark refl refl) (omega arith) (omega arith) (omega arith) ∙ rw (i, j, m))
   where
     go : (e : Bool) {m : Merge} → m ≡ wrote a' b' o at (1 ∷ []) → Gives codes_arms a' b' o at (arms_by e p_nil p_nil) m
     go true f = f
@@ -346,7 +370,7 @@ arms n l k P Q ps qs ip ia first second s a b o at a' b' (r_arm above u us) (r_a
 no_arms : (n : ℕ) (ps qs : PartArms) → same_labels ps qs ≡ false → (s : List ℕ) (a b : ℕ) (o : List ℕ) (at a' b' x y : ℕ) → get_or s a 0 ≡ x → get_or s b 0 ≡ y
     → (x ≡ y → ⊥) → a < length s → b < length s → at < MOST → Gives codes_arms a' b' o at (arms_by true ps qs) (merge_of (suc n) true s a b o at)
 no_arms n ps qs f s a b o at a' b' x y ex ey d p q r =
-    rw (f, enter true n s a b o at x y 0 ex ey (rule_exact x y d) p q r)
+    rw (f, enter true n s a b o at x y None ex ey (rule_exact x y d) p q r)
 
 exact_arms : (n l k : ℕ) (P Q : Part) (ps qs : PartArms) → Merges n P Q → MergesArms true n ps qs → MergesArms true (suc n) (p_arm l P ps) (p_arm k Q qs)
 unfolding codes same_labels

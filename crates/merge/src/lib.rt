@@ -4,16 +4,21 @@
 #![tactic(auto)]
 
 ghost use Rattle.std.specs.Prelude.{◌≡◌, cond, ◌<◌, ◌≤◌, length};
-ghost use Rattle.merge.specs.mirror.Merging.{inside, kids, copy_of, equal_rule, arm_rule, rule, step_of, step_out, both_ok, merge_of, put_on, behind_of, comes_first, behind_arms, skip_of, shares, common_on, closes, begin_of, put_marks, join_of};
+ghost use Rattle.parts.specs.mirror.Kinds.{code_of};
+ghost use Rattle.merge.specs.mirror.Merging.{is_arm, is_receive, is_action, inside, kids, copy_of, equal_rule, arm_rule, rule, step_of, step_out, both_ok, merge_of, put_on, behind_of, comes_first, behind_arms, skip_of, shares, common_on, closes, begin_of, put_marks, joined_of, join_of};
 
-use parts::{ARM, KINDS, LOOP, MARK, RECEIVE, SEND};
+use parts::Code;
 use table::Table;
 
 // Two parts of one table have at most two words for each of its rows, and so has their merge.
 const MOST: usize = Table::ROWS * 2;
 
+// The word of a mark.
+const MARK: u16 = 1;
+
 // How far a copy came: the places behind what it read, and behind what it wrote. `ok`: it is whole.
-#[derive(Clone, Copy)]
+// kept: `join` says what stands in both slices where there is no merge, so a merge goes on behind what failed, and needs the places.
+#[derive(Clone, Copy, Debug, PartialEq, Eq)]
 struct Copied {
     ok: bool,
     end: usize,
@@ -21,7 +26,8 @@ struct Copied {
 }
 
 // How far a merge came: the places behind what it read on either side, and behind what it wrote. `ok`: it is whole.
-#[derive(Clone, Copy)]
+// kept: as for a copy.
+#[derive(Clone, Copy, Debug, PartialEq, Eq)]
 struct Merged {
     ok: bool,
     a: usize,
@@ -29,21 +35,42 @@ struct Merged {
     at: usize,
 }
 
-// Whether there is a merge, and the place behind it.
-#[derive(Clone, Copy)]
-pub struct Joined {
-    pub ok: bool,
+// Two parts have no merge.
+#[derive(Clone, Copy, Debug, PartialEq, Eq)]
+pub struct NoMerge {
+    // The place behind the words that were put all the same.
     pub at: usize,
 }
 
-// The rule that two rows fall under, the places behind them, and the rows that remain.
-#[derive(Clone, Copy)]
-struct Step {
-    rule: u8,
+// What becomes of two rows that merge.
+#[derive(Clone, Copy, Debug, PartialEq, Eq)]
+enum Rule {
+    // They have no children.
+    Leaf,
+    // Their children merge. `exact`: they are arms of two Sends, where each side has every label.
+    Inside { exact: bool },
+    // An arm that only the first side has.
+    First,
+    // An arm that only the second side has.
+    Second,
+    // An arm of both.
+    Both,
+}
+
+// The next row of either side, the place of the next word, and how many rows remain.
+#[derive(Clone, Copy, Debug, PartialEq, Eq)]
+struct Rows {
     a: usize,
     b: usize,
     at: usize,
     left: usize,
+}
+
+// The rule of two rows, and the rows behind them.
+#[derive(Clone, Copy, Debug, PartialEq, Eq)]
+struct Step {
+    rule: Rule,
+    next: Rows,
 }
 
 // A place on either side, and how many actions both sides opened before it.
@@ -61,30 +88,37 @@ struct Places {
     b: usize,
 }
 
-// A row remains, and the places are inside what is read and what a merge may have.
-fn inside(left: usize, words: usize, a: usize, b: usize, at: usize) -> bool
-    ensures { result ≡ inside left words a b at }
-{
-    (0 < left) & (a < words) & (b < words) & (at < MOST)
+impl Merged {
+    // What a second walk answers: whole only if the first was.
+    fn only_if(self, ok: bool) -> Merged
+        ensures { result ≡ both_ok ok self }
+    {
+        Merged {
+            ok: ok & self.ok,
+            ..self
+        }
+    }
 }
 
-// One of two numbers, without a branch in the caller.
-fn pick(b: bool, x: u8, y: u8) -> u8
-    ensures { result ≡ cond b x y }
-{
-    if b { x } else { y }
+impl Rows {
+    // A row remains, and the places are inside what is read and what a merge may have.
+    fn is_inside(self, words: usize) -> bool
+        ensures { result ≡ inside self.left words self.a self.b self.at }
+    {
+        (0 < self.left) & (self.a < words) & (self.b < words) & (self.at < MOST)
+    }
 }
 
 // How many parts or arm lists follow a row and belong to it: an arm has its part and the arms behind it.
-fn kids(w: u16) -> u8
-    ensures { (result ≡ kids w) × (result ≤ 2) }
+#[tactic(auto, unfolding(crate::specs::mirror::Merging::kids))]
+fn kids(word: u16) -> usize
+    ensures { (result ≡ kids word) × (result ≤ 2) }
 {
-    let k = w % KINDS;
-    pick(
-        k == ARM,
-        2,
-        pick((k == LOOP) | (k == SEND) | (k == RECEIVE), 1, 0),
-    )
+    match Code::from(word) {
+        Code::Arm(_) => 2,
+        Code::Loop | Code::Send(_) | Code::Receive(_) => 1,
+        _ => 0,
+    }
 }
 
 // Copies the part or arm list at `a`.
@@ -99,7 +133,7 @@ fn copy(src: &[u16], a: usize, out: &mut [u16], at: usize) -> Copied
     while (0 < owed) & (x < src.len()) & (t < MOST) {
         let w = words::peek(src, x);
         words::poke(out, t, w);
-        owed = owed - 1 + kids(w) as usize;
+        owed = owed - 1 + kids(w);
         x += 1;
         t += 1;
     }
@@ -110,138 +144,119 @@ fn copy(src: &[u16], a: usize, out: &mut [u16], at: usize) -> Copied
     }
 }
 
-// The rule of two rows that have one word, by its kind.
-fn equal_rule(k: u16) -> u8
-    ensures { result ≡ equal_rule k }
+// The rule of two rows that have one word.
+fn equal_rule(code: Code) -> Rule
+    ensures { result ≡ equal_rule code }
 {
-    pick(
-        k == ARM,
-        6,
-        pick(k == SEND, 3, pick((k == LOOP) | (k == RECEIVE), 2, 1)),
-    )
+    match code {
+        Code::Arm(_) => Rule::Both,
+        Code::Send(_) => Rule::Inside { exact: true },
+        Code::Loop | Code::Receive(_) => Rule::Inside { exact: false },
+        _ => Rule::Leaf,
+    }
 }
 
 // Two rows of different words merge only in arm lists, where the lower label goes first and the mark behind the last arm goes last.
-fn arm_rule(x: u16, y: u16) -> u8
-    ensures { result ≡ arm_rule x y }
+fn arm_rule(first: Code, second: Code) -> Option<Rule>
+    ensures { result ≡ arm_rule first second }
 {
-    let k = x % KINDS;
-    let j = y % KINDS;
-    pick(
-        (k == ARM) & ((j == MARK) | (j == ARM) & (x < y)),
-        4,
-        pick((j == ARM) & ((k == MARK) | (k == ARM)), 5, 0),
-    )
+    match (first, second) {
+        (Code::Arm(_), Code::Mark) => Some(Rule::First),
+        (Code::Arm(k), Code::Arm(l)) if k < l => Some(Rule::First),
+        (Code::Arm(_) | Code::Mark, Code::Arm(_)) => Some(Rule::Second),
+        _ => None,
+    }
 }
 
-// 0 no merge; 1 a row without children; 2 one child each (Loop, Receive); 3 two Sends; 4 an arm that only the first side has; 5 only
-// the second; 6 an arm of both. `exact`: the rows are arms of two Sends, where each side has every label.
-fn rule_of(exact: bool, x: u16, y: u16) -> u8
+// The rule of two rows, if they merge. `exact`: the rows are arms of two Sends, where each side has every label.
+#[tactic(auto, unfolding(crate::specs::mirror::Merging::rule))]
+fn rule_of(exact: bool, x: u16, y: u16) -> Option<Rule>
     ensures { result ≡ rule exact x y }
 {
-    pick(
-        x == y,
-        equal_rule(x % KINDS),
-        pick(exact, 0, arm_rule(x, y)),
-    )
-}
-
-fn pick_word(b: bool, x: u16, y: u16) -> u16
-    ensures { result ≡ cond b x y }
-{
-    if b { x } else { y }
-}
-
-// The rule of the rows at `a` and `b`. The merge's own row is written: it is the second side's where only that side has the arm.
-fn first_rows(
-    src: &[u16],
-    exact: bool,
-    a: usize,
-    b: usize,
-    out: &mut [u16],
-    at: usize,
-    left: usize,
-) -> Step
-    ensures { (result ≡ step_of left exact src.now a b at)
-        × (out.new ≡ step_out left exact src.now a b out.old at) × (0 < result.rule → result.left < left) }
-{
-    if !inside(left, src.len(), a, b, at) {
-        return Step {
-            rule: 0,
-            a: a,
-            b: b,
-            at: at,
-            left: left,
-        };
+    if x == y {
+        return Some(equal_rule(Code::from(x)));
     }
-    let x = words::peek(src, a);
-    let y = words::peek(src, b);
+    if exact {
+        return None;
+    }
+    arm_rule(Code::from(x), Code::from(y))
+}
+
+// The rule of the next rows, and the rows behind them; none where they do not merge. The merge's own row is written: it is the second side's
+// where only that side has the arm.
+#[tactic(auto, unfolding(crate::specs::mirror::Merging::step_of, crate::specs::mirror::Merging::step_out))]
+fn first_rows(src: &[u16], exact: bool, rows: Rows, out: &mut [u16]) -> Option<Step>
+    ensures { (result ≡ step_of rows.left exact src.now rows.a rows.b rows.at)
+        × (out.new ≡ step_out rows.left exact src.now rows.a rows.b out.old rows.at) }
+{
+    if !rows.is_inside(src.len()) {
+        return None;
+    }
+    let x = words::peek(src, rows.a);
+    let y = words::peek(src, rows.b);
     let rule = rule_of(exact, x, y);
-    words::poke(out, at, pick_word(rule == 5, y, x));
-    Step {
-        rule: rule,
-        a: a + 1,
-        b: b + 1,
-        at: at + 1,
-        left: left - 1,
-    }
+    words::poke(out, rows.at, if rule == Some(Rule::Second) { y } else { x });
+    let next = Rows {
+        a: rows.a + 1,
+        b: rows.b + 1,
+        at: rows.at + 1,
+        left: rows.left - 1,
+    };
+    rule.map(|rule| Step { rule, next })
 }
 
-// What a second walk answers: ok only if the first was.
-fn both_ok(ok: bool, m: Merged) -> Merged
-    ensures { result ≡ both_ok ok m }
+// Merges the part or arm list at `rows.a` with the one at `rows.b`, one level of branches a call, by the rule of the first rows (`rule_of`).
+// Arms stand in rising label order on both sides, and so they do in the merge. `rows.left` falls, so the calls end; the place in `out` rises
+// up to MOST, so they go no deeper than that, whatever `left` is.
+fn merge(src: &[u16], exact: bool, rows: Rows, out: &mut [u16]) -> Merged
+    ensures { (result ≡ (merge_of rows.left exact src.now rows.a rows.b out.old rows.at).res)
+        × (out.new ≡ (merge_of rows.left exact src.now rows.a rows.b out.old rows.at).out) }
 {
-    Merged {
-        ok: ok & m.ok,
-        a: m.a,
-        b: m.b,
-        at: m.at,
-    }
-}
-
-// Merges the part or arm list at `a` with the one at `b`, one level of branches a call, by the rule of the first rows (`rule_of`). Arms
-// stand in rising label order on both sides, and so they do in the merge. `left`, the rows that remain, falls, so the calls end; the place in
-// `out` rises up to MOST, so they go no deeper than that, whatever `left` is.
-fn merge(
-    src: &[u16],
-    exact: bool,
-    a: usize,
-    b: usize,
-    out: &mut [u16],
-    at: usize,
-    left: usize,
-) -> Merged
-    ensures { (result ≡ (merge_of left exact src.now a b out.old at).res)
-        × (out.new ≡ (merge_of left exact src.now a b out.old at).out) }
-{
-    let s = first_rows(src, exact, a, b, out, at, left);
-    let rule = s.rule;
-    match rule {
-        0 => Merged {
+    let Some(Step { rule, next }) = first_rows(src, exact, rows, out) else {
+        return Merged {
             ok: false,
-            a: a,
-            b: b,
-            at: at,
-        },
-        1 => Merged {
+            a: rows.a,
+            b: rows.b,
+            at: rows.at,
+        };
+    };
+    match rule {
+        Rule::Leaf => Merged {
             ok: true,
-            a: s.a,
-            b: s.b,
-            at: s.at,
+            a: next.a,
+            b: next.b,
+            at: next.at,
         },
-        2 => merge(src, false, s.a, s.b, out, s.at, s.left),
-        3 => merge(src, true, s.a, s.b, out, s.at, s.left),
-        4 => {
-            let one = copy(src, s.a, out, s.at);
-            both_ok(one.ok, merge(src, exact, one.end, b, out, one.at, s.left))
+        Rule::Inside { exact } => merge(src, exact, next, out),
+        Rule::First => {
+            let one = copy(src, next.a, out, next.at);
+            let behind = Rows {
+                a: one.end,
+                b: rows.b,
+                at: one.at,
+                left: next.left,
+            };
+            merge(src, exact, behind, out).only_if(one.ok)
         }
-        5 => {
-            let one = copy(src, s.b, out, s.at);
-            both_ok(one.ok, merge(src, exact, a, one.end, out, one.at, s.left))
+        Rule::Second => {
+            let one = copy(src, next.b, out, next.at);
+            let behind = Rows {
+                a: rows.a,
+                b: one.end,
+                at: one.at,
+                left: next.left,
+            };
+            merge(src, exact, behind, out).only_if(one.ok)
         }
-        _ => {
-            let one = merge(src, false, s.a, s.b, out, s.at, s.left);
-            both_ok(one.ok, merge(src, exact, one.a, one.b, out, one.at, s.left))
+        Rule::Both => {
+            let one = merge(src, false, next, out);
+            let behind = Rows {
+                a: one.a,
+                b: one.b,
+                at: one.at,
+                left: next.left,
+            };
+            merge(src, exact, behind, out).only_if(one.ok)
         }
     }
 }
@@ -269,10 +284,29 @@ fn behind(src: &[u16], a: usize) -> usize
     // parts and arm lists that are still to come
     let mut owed: usize = 1;
     while (0 < owed) & (x < src.len()) {
-        owed = owed - 1 + kids(words::peek(src, x)) as usize;
+        owed = owed - 1 + kids(words::peek(src, x));
         x += 1;
     }
     x
+}
+
+fn is_arm(word: u16) -> bool
+    ensures { result ≡ is_arm (code_of word) }
+{
+    matches!(Code::from(word), Code::Arm(_))
+}
+
+fn is_receive(word: u16) -> bool
+    ensures { result ≡ is_receive (code_of word) }
+{
+    matches!(Code::from(word), Code::Receive(_))
+}
+
+// A Send or a Receive.
+fn is_action(word: u16) -> bool
+    ensures { result ≡ is_action (code_of word) }
+{
+    matches!(Code::from(word), Code::Send(_) | Code::Receive(_))
 }
 
 // An arm at `x` that comes before the arm whose word is y.
@@ -280,7 +314,7 @@ fn comes_first(src: &[u16], x: usize, y: u16) -> bool
     ensures { result ≡ comes_first src.now x y }
 {
     let w = words::peek(src, x);
-    (x < src.len()) & (w % KINDS == ARM) & (w < y)
+    (x < src.len()) & is_arm(w) & (w < y)
 }
 
 // The place behind the arms from `a` on that come before the arm whose word is y.
@@ -296,11 +330,12 @@ fn behind_arms(src: &[u16], a: usize, y: u16) -> usize
 
 // Where the merge of the parts at `a` and `b` starts. Of two Receives from one role, the arms of the first that come before all of the
 // second's are the merge's first arms and stand where they should.
+#[tactic(auto, unfolding(crate::specs::mirror::Merging::skip_of))]
 fn skip(src: &[u16], a: usize, b: usize) -> Places
     ensures { result ≡ skip_of src.now a b }
 {
     let w = words::peek(src, a);
-    if (a < src.len()) & (b < src.len()) & (w % KINDS == RECEIVE) & (w == words::peek(src, b)) {
+    if (a < src.len()) & (b < src.len()) & is_receive(w) & (w == words::peek(src, b)) {
         return Places {
             a: behind_arms(src, a + 1, words::peek(src, b + 1)),
             b: b + 1,
@@ -310,6 +345,7 @@ fn skip(src: &[u16], a: usize, b: usize) -> Places
 }
 
 // The words at `x` and `y` open the same: an action and an arm of it.
+#[tactic(auto, unfolding(crate::specs::mirror::Merging::shares))]
 fn shares(src: &[u16], x: usize, y: usize) -> bool
     ensures { result ≡ shares src.now x y }
 {
@@ -318,10 +354,7 @@ fn shares(src: &[u16], x: usize, y: usize) -> bool
     }
     let w = words::peek(src, x);
     let arm = words::peek(src, x + 1);
-    ((w % KINDS == SEND) | (w % KINDS == RECEIVE))
-        & (w == words::peek(src, y))
-        & (arm % KINDS == ARM)
-        & (arm == words::peek(src, y + 1))
+    is_action(w) & (w == words::peek(src, y)) & is_arm(arm) & (arm == words::peek(src, y + 1))
 }
 
 // The places behind what the parts at `a` and `b` open in common, and how many actions that is.
@@ -391,17 +424,26 @@ fn put_marks(out: &mut [u16], at: usize, marks: usize) -> usize
 }
 
 // The merge of the parts at `a` and `b` of `work` takes the place of the one at `a`. What does not stand there yet is made in `spare`, which has
-// a word for each of theirs: so many rows remain.
-pub fn join(work: &mut [u16], spare: &mut [u16], a: usize, b: usize) -> Joined
-    ensures { (result ≡ (join_of work.old spare.old a b).res)
+// a word for each of theirs: so many rows remain. The answer is the place behind the merge.
+pub fn join(work: &mut [u16], spare: &mut [u16], a: usize, b: usize) -> Result<usize, NoMerge>
+    ensures { (joined_of result ≡ (join_of work.old spare.old a b).res)
         × (work.new ≡ (join_of work.old spare.old a b).work)
         × (spare.new ≡ (join_of work.old spare.old a b).spare) }
 {
     let start = beginning(work, a, b);
     let from = skip(work, start.a, start.b);
-    let left = spare.len();
-    let m = merge(work, false, from.a, from.b, spare, 0, left);
-    let end = put(spare, m.at, work, from.a);
-    let top = put_marks(work, end, start.marks);
-    Joined { ok: m.ok, at: top }
+    let rows = Rows {
+        a: from.a,
+        b: from.b,
+        at: 0,
+        left: spare.len(),
+    };
+    let merged = merge(work, false, rows, spare);
+    let end = put(spare, merged.at, work, from.a);
+    let at = put_marks(work, end, start.marks);
+    if merged.ok {
+        Ok(at)
+    } else {
+        Err(NoMerge { at })
+    }
 }

@@ -1,31 +1,37 @@
 -- `merge::merge` meets its contract, by one law a rule. The measure is the number of rows left. Assumes nothing.
-use Rattle.merge.proofs.Steps.{over5, way0, way1, way2, way3, way4, way5, way6}
+use native.Mathlib.Omega.{arith}
+use Rattle.merge.proofs.Steps.{step_left, no_step, leaf, inner, first, second, both}
 use Rattle.merge.proofs.+merge.Goals as goal
 
-pub returns-in-0 : goal.returns-in-0
-returns-in-0 t c =
-    way0 c.args.left c.args.exact c.args.src.now c.args.a c.args.b c.args.out.now c.args.at _ _ c.first_rows-s.ensures.0 c.first_rows-s.ensures.1 c.in-0.is
-
-pub returns-in-1 : goal.returns-in-1
-returns-in-1 t c =
-    way1 c.args.left c.args.exact c.args.src.now c.args.a c.args.b c.args.out.now c.args.at _ _ c.first_rows-s.ensures.0 c.first_rows-s.ensures.1 c.in-1.is
-
-pub returns-in-2 : goal.returns-in-2
-returns-in-2 t c =
-    way2 c.args.left c.args.exact c.args.src.now c.args.a c.args.b c.args.out.now c.args.at _ _ c.first_rows-s.ensures.0 c.first_rows-s.ensures.1 c.in-2.is _ _ c.merge.ensures
-
-pub returns-in-3 : goal.returns-in-3
-returns-in-3 t c =
-    way3 c.args.left c.args.exact c.args.src.now c.args.a c.args.b c.args.out.now c.args.at _ _ c.first_rows-s.ensures.0 c.first_rows-s.ensures.1 c.in-3.is _ _ c.merge-in-3.ensures
-
-pub returns-in-4 : goal.returns-in-4
-returns-in-4 t c =
-    way4 c.args.left c.args.exact c.args.src.now c.args.a c.args.b c.args.out.now c.args.at _ _ c.first_rows-s.ensures.0 c.first_rows-s.ensures.1 c.in-4.is _ _ _ _ _ c.copy-one.ensures c.merge-in-4.ensures c.both_ok.ensures
-
-pub returns-in-5 : goal.returns-in-5
-returns-in-5 t c =
-    way5 c.args.left c.args.exact c.args.src.now c.args.a c.args.b c.args.out.now c.args.at _ _ c.first_rows-s.ensures.0 c.first_rows-s.ensures.1 c.in-5.is _ _ _ _ _ c.copy-one-in-5.ensures c.merge-in-5.ensures c.both_ok-in-5.ensures
-
 pub returns-in_default : goal.returns-in_default
-returns-in_default t c =
-    way6 c.args.left c.args.exact c.args.src.now c.args.a c.args.b c.args.out.now c.args.at _ _ c.first_rows-s.ensures.0 c.first_rows-s.ensures.1 (over5 _ c.in_default.in_default-own.rest.0.0.0.0.0.1 c.in_default.in_default-own.rest.0.0.0.0.1 c.in_default.in_default-own.rest.0.0.0.1 c.in_default.in_default-own.rest.0.0.1 c.in_default.in_default-own.rest.0.1 c.in_default.in_default-own.rest.1) _ _ _ _ _ c.merge-one.ensures c.merge-in_default.ensures c.both_ok-in_default.ensures
+returns-in_default t c = no_step _ _ _ _ _ _ _ _ c.in_default.ensures
+
+pub merge-requires : goal.merge-requires
+merge-requires t c = (omega (arith, step_left _ _ _ _ _ _ _ c.in-Some.ensures.0), tt)
+
+pub merge-requires-in-First : goal.merge-requires-in-First
+merge-requires-in-First t c = (omega (arith, step_left _ _ _ _ _ _ _ c.in-Some.ensures.0), tt)
+
+pub merge-requires-in-Second : goal.merge-requires-in-Second
+merge-requires-in-Second t c = (omega (arith, step_left _ _ _ _ _ _ _ c.in-Some.ensures.0), tt)
+
+pub merge-one-requires : goal.merge-one-requires
+merge-one-requires t c = (omega (arith, step_left _ _ _ _ _ _ _ c.in-Some.ensures.0), tt)
+
+pub merge-requires-in-Both : goal.merge-requires-in-Both
+merge-requires-in-Both t c = (omega (arith, step_left _ _ _ _ _ _ _ c.in-Some.ensures.0), tt)
+
+pub returns-in-Leaf : goal.returns-in-Leaf
+returns-in-Leaf t c = leaf _ _ _ _ _ _ _ _ _ _ c.in-Some.ensures c.in-Leaf.is
+
+pub returns-in-Inside : goal.returns-in-Inside
+returns-in-Inside t c = inner _ _ _ _ _ _ _ _ _ _ c.in-Some.ensures c.in-Inside.is c.merge.ensures
+
+pub returns-in-First : goal.returns-in-First
+returns-in-First t c = first _ _ _ _ _ _ _ _ _ _ c.in-Some.ensures c.in-First.is c.copy-one.ensures c.merge-in-First.ensures c.only_if.ensures
+
+pub returns-in-Second : goal.returns-in-Second
+returns-in-Second t c = second _ _ _ _ _ _ _ _ _ _ c.in-Some.ensures c.in-Second.is c.copy-one-in-Second.ensures c.merge-in-Second.ensures c.only_if-in-Second.ensures
+
+pub returns-in-Both : goal.returns-in-Both
+returns-in-Both t c = both _ _ _ _ _ _ _ _ _ _ c.in-Some.ensures c.in-Both.is c.merge-one.ensures c.merge-in-Both.ensures c.only_if-in-Both.ensures

@@ -18,9 +18,6 @@ overflow_sub-owed c =
     (ltb-true 0 c.loop-owed.owed p, ltb-true c.loop-owed.x (length c.args.src.now) q) in
     omega (arith, turning)
 
-pub overflow_cast-owed : goal.overflow_cast-owed
-overflow_cast-owed c = omega (arith, c.kids.ensures)
-
 pub overflow_add-owed : goal.overflow_add-owed
 overflow_add-owed c =
     let turning : (0 < c.loop-owed.owed) × (c.loop-owed.x < length c.args.src.now) = let (p, q) = both_true _ _ c.loop-owed-test.true in

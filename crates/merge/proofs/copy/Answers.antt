@@ -20,9 +20,6 @@ overflow_sub-owed c =
     (ltb-true 0 c.loop-owed.owed p, ltb-true c.loop-owed.x (length c.args.src.now) q, ltb-true c.loop-owed.t MOST r) in
     omega (arith, turning)
 
-pub overflow_cast-owed : goal.overflow_cast-owed
-overflow_cast-owed c = omega (arith, c.kids.ensures)
-
 pub overflow_add-owed : goal.overflow_add-owed
 overflow_add-owed c =
     let turning : (0 < c.loop-owed.owed) × (c.loop-owed.x < length c.args.src.now) × (c.loop-owed.t < MOST) = let (pq, r) = both_true _ (ltb c.loop-owed.t MOST) c.loop-owed-test.true in
