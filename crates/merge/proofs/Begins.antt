@@ -3,15 +3,16 @@
 use Prim.Native.Nat.{ℕ, zero, suc, ◌+◌, ◌<◌, ◌≤◌}
 use mathlib.Core.Bool.{Bool, true, false, cond, ◌&&◌, ◌||◌, true≢false}
 use mathlib.Core.List.{List, [], ◌∷◌, ◌++◌, append_assoc, append-nil}
+use mathlib.Core.Logic.{inl}
 use mathlib.Core.Option.{Option, none, some, bind}
 use mathlib.Core.Path.{◌≡◌, refl, sym, ◌∙◌, ap, ap₂, subst}
 use native.Mathlib.Decide.{ℕ_discrete}
 use native.Mathlib.Nat.{add-zero}
 use native.Mathlib.Omega.{arith}
 use lib.Dec.{eqb, ltb, leb}
-use lib.ListN.{length, get_or, set, replicate, length-append, length-replicate, length-set}
+use lib.ListN.{length, get_or, replicate, length-append, length-replicate}
 use lib.Seq.{sets}
-use borrow.Author.Tests.{lt-ltb, eqb-true, eq-eqb, leb-false}
+use borrow.Author.Tests.{eqb-true, eq-eqb, leb-false}
 use Rattle.words.proofs.Below.{and_both, or_neither}
 use Rattle.parts.specs.Part.{Part, p_end, p_send, p_receive, p_loop, p_back, PartArms, p_nil, p_arm}
 use Rattle.parts.specs.Merge.{only_if, same_labels, merge, merge_arms}
@@ -21,6 +22,7 @@ use Rattle.parts.proofs.Words.{Stands, stands_arm, words_arm, words_some_arms}
 use Rattle.parts.specs.mirror.Kinds.{code_of}
 use Rattle.parts.proofs.Read.{code_is}
 use Rattle.merge.specs.mirror.Merging.{is_arm, is_action, shares, common_on, closes, put_marks}
+use Rattle.merge.proofs.Puts.{same_some}
 use Rattle.merge.specs.declared.Common.{Common}
 
 -- so many marks
@@ -324,9 +326,4 @@ closes_is (suc n) s x e =
     (eqb-true (get_or s x 0) 1 d, rw i at (closes_is n s (x + 1) b))
 
 pub marks_put : (n : ℕ) (o : List ℕ) (at : ℕ) → at + n ≤ length o → put_marks n o at ≡ record { end = at + n; out = sets o at (marks n) }
-unfolding put_marks
-marks_put zero o at l = rw add-zero
-marks_put (suc n) o at l =
-    let i : at + 1 ≡ suc at = omega arith in
-    let k : suc at + n ≡ at + suc n = omega arith in
-    rw (lt-ltb at (length o) (omega arith), i) (marks_put n (set o at 1) (suc at) (simp length-set (omega arith)) ∙ rw k)
+marks_put n o at l = same_some 1 n n o at (omega arith, λ p. l, inl refl)

@@ -5,7 +5,7 @@
 
 ghost use Rattle.std.specs.Prelude.{◌≡◌, cond, ◌<◌, ◌≤◌, length};
 ghost use Rattle.parts.specs.mirror.Kinds.{code_of};
-ghost use Rattle.merge.specs.mirror.Merging.{is_arm, is_receive, is_action, inside, kids, copy_of, equal_rule, arm_rule, rule, step_of, step_out, both_ok, merge_of, put_on, behind_of, comes_first, behind_arms, skip_of, shares, common_on, closes, begin_of, put_marks, joined_of, join_of};
+ghost use Rattle.merge.specs.mirror.Merging.{is_arm, is_receive, is_action, inside, kids, copy_of, equal_rule, arm_rule, rule, step_of, step_out, both_ok, merge_of, put_on, behind_of, comes_first, behind_arms, skip_of, shares, common_on, closes, begin_of, put_same, joined_of, join_of};
 
 use parts::Code;
 use table::Table;
@@ -261,19 +261,29 @@ fn merge(src: &[u16], exact: bool, rows: Rows, out: &mut [u16]) -> Merged
     }
 }
 
-// Puts the first n words of `src` at `at`, as far as `out` reaches. The answer is the place behind them.
-fn put(src: &[u16], n: usize, out: &mut [u16], at: usize) -> usize
-    ensures { (result ≡ (put_on n src.now 0 out.old at).end)
-        × (out.new ≡ (put_on n src.now 0 out.old at).out) }
+// Puts these words at `at`, as far as `out` reaches. The answer is the place behind them.
+fn put(words: &[u16], out: &mut [u16], at: usize) -> usize
+    ensures { (result ≡ (put_on (length words.now) words.now 0 out.old at).end)
+        × (out.new ≡ (put_on (length words.now) words.now 0 out.old at).out) }
 {
-    let mut i = 0;
-    let mut t = at;
-    while (i < n) & (t < out.len()) {
-        words::poke(out, t, words::peek(src, i));
-        i += 1;
-        t += 1;
+    let count = words.len().min(out.len().saturating_sub(at));
+    if count == 0 {
+        return at;
     }
-    t
+    out[at..at + count].copy_from_slice(&words[..count]);
+    at + count
+}
+
+// Puts a word so many times at `at`, as far as `out` reaches. The answer is the place behind them.
+fn fill(out: &mut [u16], at: usize, count: usize, word: u16) -> usize
+    ensures { (result ≡ (put_same word count out.old at).end) × (out.new ≡ (put_same word count out.old at).out) }
+{
+    let count = count.min(out.len().saturating_sub(at));
+    if count == 0 {
+        return at;
+    }
+    out[at..at + count].fill(word);
+    at + count
 }
 
 // The place behind the part at `a`, as far as `src` reaches.
@@ -409,20 +419,6 @@ fn beginning(src: &[u16], a: usize, b: usize) -> Common
     }
 }
 
-// Puts so many marks at `at`, as far as `out` reaches. The answer is the place behind them.
-fn put_marks(out: &mut [u16], at: usize, marks: usize) -> usize
-    ensures { (result ≡ (put_marks marks out.old at).end) × (out.new ≡ (put_marks marks out.old at).out) }
-{
-    let mut t = at;
-    let mut more = marks;
-    while (0 < more) & (t < out.len()) {
-        words::poke(out, t, MARK);
-        t += 1;
-        more -= 1;
-    }
-    t
-}
-
 // The merge of the parts at `a` and `b` of `work` takes the place of the one at `a`. What does not stand there yet is made in `spare`, which has
 // a word for each of theirs: so many rows remain. The answer is the place behind the merge.
 pub fn join(work: &mut [u16], spare: &mut [u16], a: usize, b: usize) -> Result<usize, NoMerge>
@@ -439,8 +435,11 @@ pub fn join(work: &mut [u16], spare: &mut [u16], a: usize, b: usize) -> Result<u
         left: spare.len(),
     };
     let merged = merge(work, false, rows, spare);
-    let end = put(spare, merged.at, work, from.a);
-    let at = put_marks(work, end, start.marks);
+    let made = merged.at.min(spare.len());
+    let end = put(&spare[..made], work, from.a);
+    // a `spare` that is too short has zeros for the words that it lacks
+    let top = fill(work, end, merged.at - made, 0);
+    let at = fill(work, top, start.marks, MARK);
     if merged.ok {
         Ok(at)
     } else {
