@@ -3,7 +3,8 @@
 // MOST. What these functions do with the words of parts is proved in proofs/Meaning.antt and Joins.antt.
 #![tactic(auto)]
 
-ghost use Rattle.std.specs.Prelude.{◌≡◌, cond, ◌<◌, ◌≤◌, length};
+ghost use Rattle.std.specs.Prelude.{◌==◌, ◌≡◌, cond, ◌<◌, ◌≤◌, length};
+ghost use Rattle.std.specs.List.{list_all};
 ghost use Rattle.parts.specs.mirror.Kinds.{code_of};
 ghost use Rattle.merge.specs.mirror.Merging.{is_arm, is_receive, is_action, inside, kids, copy_of, equal_rule, arm_rule, rule, step_of, step_out, both_ok, merge_of, put_on, behind_of, comes_first, behind_arms, skip_of, shares, common_on, closes, begin_of, put_same, joined_of, join_of};
 
@@ -386,17 +387,21 @@ fn in_common(src: &[u16], a: usize, b: usize) -> Common
     }
 }
 
+fn are_marks(words: &[u16]) -> bool
+    ensures { result ≡ list_all (λ word. word == 1) words.now }
+{
+    words.iter().all(|word| *word == MARK)
+}
+
 // So many marks stand at `at`.
 fn closes(src: &[u16], at: usize, marks: usize) -> bool
+    requires { 0 < marks }
     ensures { result ≡ closes marks src.now at }
 {
-    let mut x = at;
-    let mut more = marks;
-    while (0 < more) & (x < src.len()) & (words::peek(src, x) == MARK) {
-        x += 1;
-        more -= 1;
+    if src.len().saturating_sub(at) < marks {
+        return false;
     }
-    more == 0
+    are_marks(&src[at..at + marks])
 }
 
 // The beginning that the parts at `a` and `b` have in common, where each of its actions has that one arm only: then its words stand where they
