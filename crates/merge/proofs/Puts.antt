@@ -11,7 +11,7 @@ use lib.Dec.{ltb, leb}
 use mathlib.Core.Bool.{Bool, true, false}
 use borrow.Author.Tests.{lt-ltb, le-ltb, ltb-false, leb-true, leb-false}
 use borrow.Rule.Slice.PartMut.{put_mid}
-use Rattle.std.proofs.lemmas.List.{length-drop, drop-drop, get_or_past, length-take-le}
+use Rattle.std.proofs.lemmas.List.{length-drop, drop-drop, get_or_past, set_past, length-take-le}
 use Rattle.parts.proofs.Words.{Stands, stands_at_lem}
 use Rattle.merge.specs.mirror.Merging.{Put, put_on, put_same}
 
@@ -128,6 +128,24 @@ part_is s o at k c e f =
     let n = length-take-le c s g.0 in
     let h = stands_at_lem s 0 (take c s) (λ i l. let z : 0 + i ≡ i = omega arith in rw z (sym (get_or-take c s i 0 (omega (arith, n))))) in
     rw n at (put_some (take c s) s (length s) 0 o at h (rw n g))
+
+sets_past : (o : List ℕ) (at : ℕ) (ws : List ℕ) → length o ≤ at → sets o at ws ≡ o
+sets_past o at [] l = refl
+sets_past o at (w ∷ ws) l = rw (set_past o at w l) (sets_past o (suc at) ws (omega arith))
+
+sets_take : (c : ℕ) (o : List ℕ) (at : ℕ) (ws : List ℕ) → (c ≡ length ws) ⊎ (length o ≤ at + c) → sets o at (take c ws) ≡ sets o at ws
+sets_take zero o at [] e = refl
+sets_take zero o at (w ∷ ws) e = sym (sets_past o at (w ∷ ws) (⊎_elim (λ h. absurd (omega arith)) (λ (h : length o ≤ at + 0). omega arith) e))
+sets_take (suc c) o at [] e = refl
+sets_take (suc c) o at (w ∷ ws) e =
+    sets_take c (set o at w) (suc at) ws (⊎_elim (λ h. inl (omega arith)) (λ (h : length o ≤ at + suc c). inr (simp length-set (omega arith))) e)
+
+-- what does not fit is no word of the slice
+pub put_sets : (ws o : List ℕ) (at : ℕ) → (put_on (length ws) ws 0 o at).out ≡ sets o at ws
+put_sets ws o at =
+    let c = min (length ws) (length o - at) in
+    let g = fills_min (length ws) c (length o - at) o at refl refl in
+    rw (part_is ws o at (length o - at) c refl refl) (sets_take c o at ws g.2)
 
 pub put_leaves : (s o new : List ℕ) (at k c : ℕ) → k ≡ length o - at → c ≡ min (length s) k → (c ≡ 0 → ⊥) → new ≡ take c s
     → (at + c ≡ (put_on (length s) s 0 o at).end) × (put_mid at (at + c - at) o new ≡ (put_on (length s) s 0 o at).out)

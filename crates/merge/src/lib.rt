@@ -3,10 +3,10 @@
 // MOST. What these functions do with the words of parts is proved in proofs/Meaning.antt and Joins.antt.
 #![tactic(auto)]
 
-ghost use Rattle.std.specs.Prelude.{◌==◌, ◌≡◌, cond, ◌<◌, ◌≤◌, length};
+ghost use Rattle.std.specs.Prelude.{IfSome, ◌==◌, ◌≡◌, cond, ◌<◌, ◌≤◌, length};
 ghost use Rattle.std.specs.List.{list_all};
 ghost use Rattle.parts.specs.mirror.Kinds.{code_of};
-ghost use Rattle.merge.specs.mirror.Merging.{is_arm, is_receive, is_action, inside, kids, copy_of, equal_rule, arm_rule, rule, step_of, step_out, both_ok, merge_of, put_on, behind_of, comes_first, behind_arms, skip_of, shares, common_on, closes, begin_of, put_same, joined_of, join_of};
+ghost use Rattle.merge.specs.mirror.Merging.{is_arm, is_receive, is_action, inside, kids, ends, copy_of, equal_rule, arm_rule, rule, step_of, step_out, both_ok, merge_of, put_on, behind_of, comes_first, behind_arms, skip_of, shares, common_on, closes, begin_of, put_same, joined_of, join_of};
 
 use parts::Code;
 use table::Table;
@@ -119,29 +119,6 @@ fn kids(word: u16) -> usize
         Code::Arm(_) => 2,
         Code::Loop | Code::Send(_) | Code::Receive(_) => 1,
         _ => 0,
-    }
-}
-
-// Copies the part or arm list at `a`.
-fn copy(src: &[u16], a: usize, out: &mut [u16], at: usize) -> Copied
-    ensures { (result ≡ (copy_of src.now a out.old at).res)
-        × (out.new ≡ (copy_of src.now a out.old at).out) }
-{
-    let mut x = a;
-    let mut t = at;
-    // parts and arm lists that are still to come
-    let mut owed: usize = 1;
-    while (0 < owed) & (x < src.len()) & (t < MOST) {
-        let w = words::peek(src, x);
-        words::poke(out, t, w);
-        owed = owed - 1 + kids(w);
-        x += 1;
-        t += 1;
-    }
-    Copied {
-        ok: owed == 0,
-        end: x,
-        at: t,
     }
 }
 
@@ -287,18 +264,67 @@ fn fill(out: &mut [u16], at: usize, count: usize, word: u16) -> usize
     at + count
 }
 
+// How many words the part or arm list has that stands at the front; none where it does not end.
+fn part_len(words: &[u16]) -> Option<usize>
+    ensures value { result ≡ ends words.now 1 }
+    ensures bound { IfSome result (λ count. count ≤ length words.now) }
+{
+    // parts and arm lists that are still to come
+    let mut owed: usize = 1;
+    for (i, word) in words.iter().enumerate() {
+        owed = owed - 1 + kids(*word);
+        if owed == 0 {
+            return Some(i + 1);
+        }
+    }
+    None
+}
+
+// Copies the part or arm list at `a`.
+fn copy(src: &[u16], a: usize, out: &mut [u16], at: usize) -> Copied
+    ensures { (result ≡ (copy_of src.now a out.old at).res)
+        × (out.new ≡ (copy_of src.now a out.old at).out) }
+{
+    let room = src.len().saturating_sub(a).min(MOST.saturating_sub(at));
+    if room == 0 {
+        return Copied {
+            ok: false,
+            end: a,
+            at,
+        };
+    }
+    let words = &src[a..a + room];
+    match part_len(words) {
+        Some(len) => {
+            put(&words[..len], out, at);
+            Copied {
+                ok: true,
+                end: a + len,
+                at: at + len,
+            }
+        }
+        None => {
+            put(words, out, at);
+            Copied {
+                ok: false,
+                end: a + room,
+                at: at + room,
+            }
+        }
+    }
+}
+
 // The place behind the part at `a`, as far as `src` reaches.
 fn behind(src: &[u16], a: usize) -> usize
     ensures { (result ≡ behind_of src.now a) × (a ≤ result) }
 {
-    let mut x = a;
-    // parts and arm lists that are still to come
-    let mut owed: usize = 1;
-    while (0 < owed) & (x < src.len()) {
-        owed = owed - 1 + kids(words::peek(src, x));
-        x += 1;
+    if src.len() <= a {
+        return a;
     }
-    x
+    match part_len(&src[a..]) {
+        Some(len) => a + len,
+        None => src.len(),
+    }
 }
 
 fn is_arm(word: u16) -> bool
