@@ -75,7 +75,7 @@ struct Step {
 }
 
 // A place on either side, and how many actions both sides opened before it.
-#[derive(Clone, Copy)]
+#[derive(Clone, Copy, Debug, PartialEq, Eq)]
 struct Common {
     a: usize,
     b: usize,
@@ -83,7 +83,7 @@ struct Common {
 }
 
 // A place on either side.
-#[derive(Clone, Copy)]
+#[derive(Clone, Copy, Debug, PartialEq, Eq)]
 struct Places {
     a: usize,
     b: usize,
@@ -95,7 +95,7 @@ impl Merged {
         ensures { result ≡ both_ok ok self }
     {
         Merged {
-            ok: ok & self.ok,
+            ok: ok && self.ok,
             ..self
         }
     }
@@ -106,7 +106,7 @@ impl Rows {
     fn is_inside(self, words: usize) -> bool
         ensures { result ≡ inside self.left words self.a self.b self.at }
     {
-        (0 < self.left) & (self.a < words) & (self.b < words) & (self.at < MOST)
+        0 < self.left && self.a < words && self.b < words && self.at < MOST
     }
 }
 
@@ -350,8 +350,8 @@ fn is_action(word: u16) -> bool
 fn comes_first(src: &[u16], x: usize, y: u16) -> bool
     ensures { result ≡ comes_first src.now x y }
 {
-    let w = words::peek(src, x);
-    (x < src.len()) & is_arm(w) & (w < y)
+    let word = words::peek(src, x);
+    x < src.len() && is_arm(word) && word < y
 }
 
 // The place behind the arms from `a` on that come before the arm whose word is y.
@@ -371,14 +371,14 @@ fn behind_arms(src: &[u16], a: usize, y: u16) -> usize
 fn skip(src: &[u16], a: usize, b: usize) -> Places
     ensures { result ≡ skip_of src.now a b }
 {
-    let w = words::peek(src, a);
-    if (a < src.len()) & (b < src.len()) & is_receive(w) & (w == words::peek(src, b)) {
+    let word = words::peek(src, a);
+    if a < src.len() && b < src.len() && is_receive(word) && word == words::peek(src, b) {
         return Places {
             a: behind_arms(src, a + 1, words::peek(src, b + 1)),
             b: b + 1,
         };
     }
-    Places { a: a, b: b }
+    Places { a, b }
 }
 
 // The words at `x` and `y` open the same: an action and an arm of it.
@@ -386,12 +386,12 @@ fn skip(src: &[u16], a: usize, b: usize) -> Places
 fn shares(src: &[u16], x: usize, y: usize) -> bool
     ensures { result ≡ shares src.now x y }
 {
-    if (src.len() <= x) | (src.len() <= y) {
+    if src.len() <= x || src.len() <= y {
         return false;
     }
-    let w = words::peek(src, x);
+    let word = words::peek(src, x);
     let arm = words::peek(src, x + 1);
-    is_action(w) & (w == words::peek(src, y)) & is_arm(arm) & (arm == words::peek(src, y + 1))
+    is_action(word) && word == words::peek(src, y) && is_arm(arm) && arm == words::peek(src, y + 1)
 }
 
 // The places behind what the parts at `a` and `b` open in common, and how many actions that is.
@@ -406,11 +406,7 @@ fn in_common(src: &[u16], a: usize, b: usize) -> Common
         y += 2;
         marks += 1;
     }
-    Common {
-        a: x,
-        b: y,
-        marks: marks,
-    }
+    Common { a: x, b: y, marks }
 }
 
 fn are_marks(words: &[u16]) -> bool
@@ -435,19 +431,15 @@ fn closes(src: &[u16], at: usize, marks: usize) -> bool
 fn beginning(src: &[u16], a: usize, b: usize) -> Common
     ensures { result ≡ begin_of src.now a b }
 {
-    let c = in_common(src, a, b);
-    let marks = c.marks;
+    let common = in_common(src, a, b);
+    let marks = common.marks;
     if marks == 0 {
-        return c;
+        return common;
     }
-    if closes(src, behind(src, c.a), marks) & closes(src, behind(src, c.b), marks) {
-        return c;
+    if closes(src, behind(src, common.a), marks) && closes(src, behind(src, common.b), marks) {
+        return common;
     }
-    Common {
-        a: a,
-        b: b,
-        marks: 0,
-    }
+    Common { a, b, marks: 0 }
 }
 
 // The merge of the parts at `a` and `b` of `work` takes the place of the one at `a`. What does not stand there yet is made in `spare`, which has
