@@ -1,5 +1,5 @@
 -- What good tables hold: sizes, rows, links, heads, arms. Assumes nothing.
-use Prim.Native.Nat.{ℕ, zero, suc, ◌<◌, ◌≤◌}
+use Prim.Native.Nat.{ℕ, zero, suc, ◌<◌}
 use mathlib.Core.Bool.{Bool, true, false, cond, ◌&&◌, ◌||◌, not, true≢false}
 use mathlib.Core.List.{List}
 use mathlib.Core.Option.{Option, none, some}
@@ -14,8 +14,7 @@ use Rattle.table.specs.Rules.{roles_broken}
 use Rattle.blocks.specs.Block.{PartRow, End, Arm, Loop, Back, Send, Receive, Other, part_row, block_rows, is_arm, is_head, is_loop, label}
 use Rattle.blocks.specs.Head.{onward, follow, head, arm_then, chain, arms_of, find}
 use Rattle.blocks.specs.Tables.{tables_good, sizes_good, row_holds, row_good, to_arm, to_other, is_peer}
-use Rattle.blocks.specs.mirror.Tables.{good_rows}
-use Rattle.blocks.proofs.Good.{both, Sized, sized_bounds}
+use Rattle.blocks.proofs.Good.{both, Sized}
 
 either : (a b : Bool) → (a || b) ≡ true → (a ≡ false) → b ≡ true
 either true b e f = absurd (true≢false f)
@@ -57,6 +56,20 @@ module _ (ts : List ℕ) (roles r i j : ℕ) where
       let (ab, c) = both (ltb i j && ltb j (block_rows ts roles)) (not (is_arm (part_row ts roles r j))) e in
       (ltb-true _ _ (both (ltb i j) (ltb j (block_rows ts roles)) ab).1, not-true (is_arm (part_row ts roles r j)) c)
 
+-- where a Loop and a Back that hold lead
+module _ (lim : Limits) (ts : List ℕ) (roles r i : ℕ) where
+  pub loop_inside : (b x y : ℕ) → row_holds lim ts roles r i (Loop b x y) ≡ true → b < block_rows ts roles
+  unfolding row_holds
+  loop_inside b x y h =
+      (to_other_in ts roles r i b (both (to_other ts roles r i b) (eqb x 0) (both (to_other ts roles r i b && eqb x 0) (eqb y 0) h).0).0).0
+
+  pub back_below : (j x y : ℕ) → row_holds lim ts roles r i (Back j x y) ≡ true → j < i
+  unfolding row_holds
+  back_below j x y h =
+      let (abc, d) = both (ltb j i && is_loop (part_row ts roles r j) && eqb x 0) (eqb y 0) h in
+      let (ab, c) = both (ltb j i && is_loop (part_row ts roles r j)) (eqb x 0) abc in
+      ltb-true _ _ (both (ltb j i) (is_loop (part_row ts roles r j)) ab).0
+
 -- what a lookup of the label l found: l is a label, and the continuation c a row of the block that is no Arm
 pub record Reached (lim : Limits) (ts : List ℕ) (roles r l c : ℕ) : Type 0 where
   pub low : l < lim.labels
@@ -73,16 +86,11 @@ module _ (lim : Limits) (ts : List ℕ) (roles r : ℕ) (holds : (i : ℕ) → i
   -- following stays in the block
   on_in : (n i : ℕ) (row : PartRow) → i < block_rows ts roles → ((j : ℕ) → j < block_rows ts roles → follow n ts roles r j < block_rows ts roles)
       → row_holds lim ts roles r i row ≡ true → onward (λ j. follow n ts roles r j) i row < block_rows ts roles
-  unfolding onward row_holds
+  unfolding onward
   on_in n i (End a b c) l ih h = l
   on_in n i (Arm k c m) l ih h = l
-  on_in n i (Loop b x y) l ih h =
-      ih b (to_other_in ts roles r i b (both (to_other ts roles r i b) (eqb x 0) (both (to_other ts roles r i b && eqb x 0) (eqb y 0) h).0).0).0
-  on_in n i (Back j x y) l ih h =
-      let (abc, d) = both (ltb j i && is_loop (part_row ts roles r j) && eqb x 0) (eqb y 0) h in
-      let (ab, c) = both (ltb j i && is_loop (part_row ts roles r j)) (eqb x 0) abc in
-      let low : j < i = ltb-true _ _ (both (ltb j i) (is_loop (part_row ts roles r j)) ab).0 in
-      ih j (omega arith)
+  on_in n i (Loop b x y) l ih h = ih b (loop_inside lim ts roles r i b x y h)
+  on_in n i (Back j x y) l ih h = let low = back_below lim ts roles r i j x y h in ih j (omega arith)
   on_in n i (Send q f x) l ih h = l
   on_in n i (Receive q f x) l ih h = l
   on_in n i Other l ih h = l
@@ -168,19 +176,3 @@ module _ (ts : List ℕ) (roles r i q f x : ℕ) where
   pub receive_peer : row_holds base ts roles r i (Receive q f x) ≡ true → (q < roles) × (q ≡ r → ⊥)
   unfolding row_holds
   receive_peer h = peer_in roles r q (both (is_peer roles r q) (to_arm ts roles r i f) (both (is_peer roles r q && to_arm ts roles r i f) (eqb x 0) h).0).0
-
--- how many rows good tables have
-pub bad_tables : (ts : List ℕ) (roles : ℕ) → 0 ≡ good_rows base ts roles → tables_good base ts roles ≡ false
-bad_tables ts roles e = decide (tables_good base ts roles) refl e
-  where
-    decide : (t : Bool) → tables_good base ts roles ≡ t → 0 ≡ cond t (block_rows ts roles) 0 → t ≡ false
-    decide true g z = absurd (let b = sized_bounds ts roles (block_rows ts roles) (good_sized ts roles g) in omega (arith, b.2))
-    decide false g z = refl
-
-pub good_tables : (ts : List ℕ) (roles n : ℕ) → n ≡ good_rows base ts roles → (n ≡ 0 → ⊥)
-    → (tables_good base ts roles ≡ true) × (n ≡ block_rows ts roles) × (n ≤ 256)
-good_tables ts roles n e h = decide (tables_good base ts roles) refl e
-  where
-    decide : (t : Bool) → tables_good base ts roles ≡ t → n ≡ cond t (block_rows ts roles) 0 → (t ≡ true) × (n ≡ block_rows ts roles) × (n ≤ 256)
-    decide true g z = let b = sized_bounds ts roles (block_rows ts roles) (good_sized ts roles g) in (refl, z, omega (arith, b.3, z))
-    decide false g z = absurd (h z)

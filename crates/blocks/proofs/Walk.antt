@@ -1,106 +1,100 @@
--- Laws of the rows of a block: what a kind decides, one step towards a head, one step along a chain. Assumes nothing.
-use Prim.Native.Nat.{ℕ, zero, suc, ◌+◌, ◌*◌, ◌≤◌, min}
+-- Laws of the rows of a block: one step towards a head, one step along a chain. Assumes nothing.
+use Prim.Native.Nat.{ℕ, zero, suc, ◌*◌, min}
 use mathlib.Core.Bool.{Bool, true, false, cond}
 use mathlib.Core.List.{List, [], ◌∷◌}
 use mathlib.Core.Path.{◌≡◌, refl, sym, ◌∙◌, ap}
 use mathlib.Core.Option.{some}
 use lib.Dec.{eqb}
-use lib.ListN.{length, get_or-eq_default}
-use native.Mathlib.Omega.{arith}
 use borrow.Author.Tests.{eq-eqb, ne_eqb}
-use Rattle.blocks.specs.Block.{part_row_of}
-use Rattle.blocks.specs.Head.{onward, arm_then, find, lowest_label, ArmAt}
-use Rattle.blocks.specs.mirror.Rows.{words, said, row_at, follow_at, chain_at, found_of, lookup}
+use Rattle.std.specs.Prelude.{Ok, Err}
+use Rattle.blocks.specs.Block.{PartRow, part_row, block_rows}
+use Rattle.blocks.specs.Head.{onward, follow, arm_then, chain, arms_of, find, lowest_label, ArmAt}
+use Rattle.blocks.specs.mirror.Rows.{said, row_at, chain_at, found_of, lookup}
 use Rattle.blocks.specs.declared.rows.Row.{Row}
-use Rattle.blocks.specs.declared.rows.Found.TheVariants.{At, Nothing}
-
--- past the end of the tables every word is 0
-pub words_past : (ts : List ℕ) (at : ℕ) → length ts ≤ at * 4 → record { kind = 0; first = 0; second = 0; third = 0 } ≡ words ts at
-words_past ts at h =
-    rw (get_or-eq_default ts 0 {n = at * 4 + 0} (omega arith), get_or-eq_default ts 0 {n = at * 4 + 1} (omega arith), get_or-eq_default ts 0 {n = at * 4 + 2} (omega arith), get_or-eq_default ts 0 {n = at * 4 + 3} (omega arith))
+use Rattle.blocks.specs.declared.rows.Row.TheVariants.{End, Arm, Loop, Back, Send, Receive, Other}
 
 -- a row that is no Loop and no Back is where following stays
-onward_stays : (go : ℕ → ℕ) (i k a b c : ℕ) → (k ≡ 3 → ⊥) → (k ≡ 4 → ⊥) → onward go i (part_row_of k a b c) ≡ i
+pub onward_stays : (go : ℕ → ℕ) (i : ℕ) (w : Row) → ((b x y : ℕ) → w ≡ Loop b x y → ⊥) → ((j x y : ℕ) → w ≡ Back j x y → ⊥) → onward go i (said w) ≡ i
 unfolding onward
-onward_stays go i zero a b c h g = refl
-onward_stays go i (suc zero) a b c h g = refl
-onward_stays go i (suc (suc zero)) a b c h g = refl
-onward_stays go i (suc (suc (suc zero))) a b c h g = absurd (h refl)
-onward_stays go i (suc (suc (suc (suc zero)))) a b c h g = absurd (g refl)
-onward_stays go i (suc (suc (suc (suc (suc zero))))) a b c h g = refl
-onward_stays go i (suc (suc (suc (suc (suc (suc zero)))))) a b c h g = refl
-onward_stays go i (suc (suc (suc (suc (suc (suc (suc k))))))) a b c h g = refl
+onward_stays go i (End a b c) h g = refl
+onward_stays go i (Arm l c n) h g = refl
+onward_stays go i (Loop b x y) h g = absurd (h b x y refl)
+onward_stays go i (Back j x y) h g = absurd (g j x y refl)
+onward_stays go i (Send q f x) h g = refl
+onward_stays go i (Receive q f x) h g = refl
+onward_stays go i Other h g = refl
 
 -- a row that is no Arm ends a chain
-chain_ends : (more : ℕ → List ArmAt) (k a b c : ℕ) → (k ≡ 2 → ⊥) → arm_then more (part_row_of k a b c) ≡ []
+pub chain_ends : (more : ℕ → List ArmAt) (w : Row) → ((l c n : ℕ) → w ≡ Arm l c n → ⊥) → arm_then more (said w) ≡ []
 unfolding arm_then
-chain_ends more zero a b c h = refl
-chain_ends more (suc zero) a b c h = refl
-chain_ends more (suc (suc zero)) a b c h = absurd (h refl)
-chain_ends more (suc (suc (suc zero))) a b c h = refl
-chain_ends more (suc (suc (suc (suc zero)))) a b c h = refl
-chain_ends more (suc (suc (suc (suc (suc zero))))) a b c h = refl
-chain_ends more (suc (suc (suc (suc (suc (suc zero)))))) a b c h = refl
-chain_ends more (suc (suc (suc (suc (suc (suc (suc k))))))) a b c h = refl
+chain_ends more (End a b c) h = refl
+chain_ends more (Arm l c n) h = absurd (h l c n refl)
+chain_ends more (Loop b x y) h = refl
+chain_ends more (Back j x y) h = refl
+chain_ends more (Send q f x) h = refl
+chain_ends more (Receive q f x) h = refl
+chain_ends more Other h = refl
 
--- w is what was read of row i, whose number was read as j
-pub row_read : (ts : List ℕ) (start : ℕ) {i j : ℕ} {w : Row} → j ≡ i → w ≡ words ts (start + j) → row_at ts start i ≡ said w
-row_read ts start r read = rw (← r, read)
+-- w is row i of role r's block, and n is one more than m
+pub follow_step : (ts : List ℕ) (roles r : ℕ) {n m : ℕ} (i : ℕ) (w : Row) → n ≡ suc m → said w ≡ part_row ts roles r i
+    → follow n ts roles r i ≡ onward (λ j. follow m ts roles r j) i (said w)
+unfolding follow
+follow_step ts roles r i w e read = rw (e, read)
 
--- n is one more than m
-module _ (ts : List ℕ) (start : ℕ) {n m i j : ℕ} {w : Row} (e : n ≡ suc m) (r : j ≡ i) (read : w ≡ words ts (start + j)) where
-  pub follow_loop : w.kind ≡ 3 → follow_at n ts start i ≡ follow_at m ts start w.first
-  unfolding follow_at onward
-  follow_loop k = rw (e, follow_at, row_read ts start r read, k)
-
-  pub follow_back : w.kind ≡ 4 → follow_at n ts start i ≡ follow_at m ts start w.first
-  unfolding follow_at onward
-  follow_back k = rw (e, follow_at, row_read ts start r read, k)
-
-  pub follow_stays : (w.kind ≡ 3 → ⊥) → (w.kind ≡ 4 → ⊥) → follow_at n ts start i ≡ i
-  unfolding follow_at
-  follow_stays h g = rw (e, follow_at, row_read ts start r read) (onward_stays (λ x. follow_at m ts start x) i w.kind w.first w.second w.third h g)
-
-pub follow_no_more : (ts : List ℕ) (start i : ℕ) {n : ℕ} → n ≡ 0 → follow_at n ts start i ≡ i
-unfolding follow_at
-follow_no_more ts start i e = rw (e, follow_at)
-
-chain_step : (ts : List ℕ) (start m i : ℕ) → (i ≡ 0 → ⊥)
-    → chain_at (suc m) ts start i ≡ arm_then (λ j. chain_at m ts start j) (row_at ts start i)
+chain_more : (ts : List ℕ) (start m i : ℕ) → (i ≡ 0 → ⊥) → chain_at (suc m) ts start i ≡ arm_then (λ j. chain_at m ts start j) (row_at ts start i)
 unfolding chain_at
-chain_step ts start m zero h = absurd (h refl)
-chain_step ts start m (suc i) h = refl
+chain_more ts start m zero h = absurd (h refl)
+chain_more ts start m (suc i) h = refl
+
+-- w is row i of the block that begins at `start`, and n is one more than m
+module _ (ts : List ℕ) (start : ℕ) {n m : ℕ} (i : ℕ) (w : Row) (e : n ≡ suc m) (read : said w ≡ row_at ts start i) (z : i ≡ 0 → ⊥) where
+  chain_step : chain_at n ts start i ≡ arm_then (λ j. chain_at m ts start j) (said w)
+  chain_step = rw (e, read) (chain_more ts start m i z)
+
+  pub lookup_ends : (l k : ℕ) → ((l c n : ℕ) → w ≡ Arm l c n → ⊥) → lookup l k (chain_at n ts start i) ≡ Err k
+  unfolding lookup
+  lookup_ends l k h = rw (chain_step, chain_ends (λ j. chain_at m ts start j) w h)
+
+  -- the row is an Arm
+  module _ {a c x : ℕ} (arm : w ≡ Arm a c x) (l k : ℕ) where
+    arm_read : chain_at n ts start i ≡ record { label = a; continuation = c } ∷ chain_at m ts start x
+    unfolding arm_then
+    arm_read = chain_step ∙ rw arm
+
+    pub lookup_here : a ≡ l → lookup l k (chain_at n ts start i) ≡ Ok c
+    unfolding lookup
+    lookup_here h = rw (arm_read, h, eq-eqb l l refl)
+
+    pub lookup_on : (a ≡ l → ⊥) → lookup l k (chain_at n ts start i) ≡ lookup l (min k a) (chain_at m ts start x)
+    unfolding lookup
+    lookup_on h = rw (arm_read, lookup, ne_eqb l a (λ q. h (sym q)))
 
 pub chain_none : (ts : List ℕ) (start n i : ℕ) → i ≡ 0 → chain_at n ts start i ≡ []
 unfolding chain_at
 chain_none ts start zero i e = refl
 chain_none ts start (suc n) i e = rw (e, chain_at)
 
-pub chain_no_more : (ts : List ℕ) (start i : ℕ) {n : ℕ} → n ≡ 0 → chain_at n ts start i ≡ []
-unfolding chain_at
-chain_no_more ts start i e = rw (e, chain_at)
+-- ---- the chain of a role's block
 
--- n is one more than m
-module _ (ts : List ℕ) (start l : ℕ) {n m i j : ℕ} {w : Row} (e : n ≡ suc m) (z : i ≡ 0 → ⊥) (r : j ≡ i) (read : w ≡ words ts (start + j)) where
-  chain_read : chain_at n ts start i ≡ arm_then (λ x. chain_at m ts start x) (said w)
-  chain_read = rw e (chain_step ts start m i z ∙ ap (arm_then (λ x. chain_at m ts start x)) (row_read ts start r read))
+arm_then_ext : (f g : ℕ → List ArmAt) → ((j : ℕ) → f j ≡ g j) → (row : PartRow) → arm_then f row ≡ arm_then g row
+unfolding arm_then
+arm_then_ext f g h (PartRow.End a b c) = refl
+arm_then_ext f g h (PartRow.Arm l c n) = ap (λ (arms : List ArmAt). record { label = l; continuation = c } ∷ arms) (h n)
+arm_then_ext f g h (PartRow.Loop b x y) = refl
+arm_then_ext f g h (PartRow.Back j x y) = refl
+arm_then_ext f g h (PartRow.Send q a x) = refl
+arm_then_ext f g h (PartRow.Receive q a x) = refl
+arm_then_ext f g h PartRow.Other = refl
 
-  pub lookup_end : (k : ℕ) → (w.kind ≡ 2 → ⊥) → lookup l k (chain_at n ts start i) ≡ Nothing k
-  unfolding lookup
-  lookup_end k h = rw (chain_read, chain_ends (λ x. chain_at m ts start x) w.kind w.first w.second w.third h)
+module _ (ts : List ℕ) (roles r : ℕ) where
+  chain_at_lem : (n i : ℕ) → chain n ts roles r i ≡ chain_at n ts (r * block_rows ts roles) i
+  unfolding chain chain_at
+  chain_at_lem zero i = refl
+  chain_at_lem (suc n) zero = refl
+  chain_at_lem (suc n) (suc i) = arm_then_ext (λ j. chain n ts roles r j) (λ j. chain_at n ts (r * block_rows ts roles) j) (λ j. chain_at_lem n j) (part_row ts roles r (suc i))
 
-  arm_read : w.kind ≡ 2 → chain_at n ts start i ≡ record { label = w.first; continuation = w.second } ∷ chain_at m ts start w.third
-  unfolding arm_then
-  arm_read k = rw (chain_read, k)
-
-  pub lookup_here : (k : ℕ) → w.kind ≡ 2 → w.first ≡ l → lookup l k (chain_at n ts start i) ≡ At w.second
-  unfolding lookup
-  lookup_here k d h = rw (arm_read d, h, eq-eqb l l refl)
-
-  pub lookup_on : (k k' : ℕ) → w.kind ≡ 2 → (w.first ≡ l → ⊥) → k' ≡ min k w.first
-      → lookup l k (chain_at n ts start i) ≡ lookup l k' (chain_at m ts start w.third)
-  unfolding lookup
-  lookup_on k k' d h e = rw (arm_read d, lookup, ne_eqb l w.first (λ q. h (sym q)), e)
+  pub arms_at : (first : ℕ) → arms_of ts roles r first ≡ chain_at (block_rows ts roles) ts (r * block_rows ts roles) first
+  arms_at first = chain_at_lem (block_rows ts roles) first
 
 -- one walk finds the arm, or the lowest label
 pub lookup_is : (l k : ℕ) (arms : List ArmAt) → lookup l k arms ≡ found_of (find l arms) (lowest_label k arms)
@@ -109,6 +103,6 @@ lookup_is l k [] = refl
 lookup_is l k (a ∷ as') = go (eqb l a.label) (lookup_is l (min k a.label) as')
   where
     go : (b : Bool) → lookup l (min k a.label) as' ≡ found_of (find l as') (lowest_label (min k a.label) as')
-        → cond b (At a.continuation) (lookup l (min k a.label) as') ≡ found_of (cond b (some a.continuation) (find l as')) (lowest_label (min k a.label) as')
+        → cond b (Ok a.continuation) (lookup l (min k a.label) as') ≡ found_of (cond b (some a.continuation) (find l as')) (lowest_label (min k a.label) as')
     go true h = refl
     go false h = h

@@ -1,77 +1,104 @@
 // How far the rows of a block are from their heads. The rows of a long way are noted, and no later way goes on past a noted row: so the
 // steps of all rows of a block together are at most a few for each, whatever its words.
-ghost use Rattle.std.specs.Prelude.{◌≡◌, true, false, ◌-◌, ◌*◌, ◌<◌, ◌≤◌};
+ghost use Rattle.std.specs.Prelude.{◌≡◌, true, false, ◌-◌, ◌<◌, ◌≤◌};
 ghost use Rattle.table.specs.Limits.{base};
-ghost use Rattle.blocks.specs.mirror.Tables.{has_head_at};
-ghost use Rattle.blocks.specs.mirror.Heads.{Far, Noted, Bad, Headless};
+ghost use Rattle.blocks.specs.mirror.Heads.{has_head_in, Far, Noted, Headless, Steps};
 
-use crate::rows;
-use crate::rows::Row;
+use crate::rows::{Block, Row};
+use table::Table;
 
-// How many steps lead from a row to its head; as many as the block has rows, or more, where there is none that near. Whoever leaves the
-// block came from a row that does not hold, and is not followed further.
-fn steps(tables: &[u16], noted: &[u16], rows: usize, start: usize, row: usize) -> usize
-    requires { (rows ≤ base.rows) × (rows ≤ row → Bad tables.now start rows) × (Noted tables.now start rows noted.now) }
-    ensures { (result < rows → Far tables.now start row result) × (rows ≤ result → Headless tables.now start rows row) }
-{
-    let mut at = row;
-    let mut taken = 0;
-    while (at < rows) & (taken < rows) {
-        let part = rows::row_at(tables, start, at);
-        let kind = part.kind;
-        match kind {
-            Row::LOOP => {}
-            Row::BACK => {}
-            _ => return if rows::stands(part) { taken } else { rows },
+// A block, and of each of its rows the steps to its head after the block's `start`; at most `start` where nothing is known of the row. The
+// blocks share one array of notes: what an earlier block left there is at most the next block's `start`.
+#[derive(Drop)]
+pub struct Notes<'a> {
+    pub block: Block<'a>,
+    pub noted: [u16; Table::ROWS],
+    pub ghost right: { Noted block.tables.now block.roles block.role noted },
+}
+
+impl<'a> Notes<'a> {
+    // So few steps are sooner gone again than noted. Few tables have a head further away.
+    const NEAR: u16 = 4;
+
+    // Nothing is known yet.
+    pub fn new(block: Block<'a>) -> Self
+        ensures { result.block ≡ block.entry }
+    {
+        Notes {
+            block,
+            noted: [0; Table::ROWS],
         }
-        let known = words::wide(words::peek(noted, at));
-        if start < known {
-            return taken + (known - start);
+    }
+
+    // Goes on to the block of this role or of a later one.
+    pub fn enter(&mut self, role: usize)
+        requires { (self.old.block.role ≤ role) × (role < self.old.block.roles) }
+        ensures { (self.new.block.tables.now ≡ self.old.block.tables.now) × (self.new.block.roles ≡ self.old.block.roles) × (self.new.block.role ≡ role) }
+    {
+        self.block = self.block.of_role(role);
+    }
+
+    // How many steps lead from a row to its head; none where there is no head that near. Whoever leaves the block came from a row that does
+    // not hold, and is not followed further.
+    fn steps(&self, row: u16) -> Option<u16>
+        requires { row < self.now.block.rows }
+        ensures { Steps self.now.block.tables.now self.now.block.roles self.now.block.role row result }
+    {
+        let rows = self.block.rows;
+        let mut at = row;
+        for taken in 0..rows {
+            let part = self.block.row(at);
+            let on = match part {
+                Row::Loop(body, ..) => body,
+                Row::Back(to, ..) => to,
+                _ => return part.stands().then_some(taken),
+            };
+            let left = words::peek(&self.noted, usize::from(at)).saturating_sub(self.block.start);
+            if 0 < left {
+                let far = taken + left;
+                return (far < rows).then_some(far);
+            }
+            if rows <= on {
+                return None;
+            }
+            at = on;
         }
-        at = words::wide(part.first);
-        taken += 1;
+        None
     }
-    rows
-}
 
-// A number of steps as a word.
-fn narrow(steps: usize) -> u16
-    requires { steps < 65536 }
-    ensures { result ≡ steps }
-{
-    steps as u16
-}
-
-// Notes the rows on the way to a head, up to the first that was noted before: the steps left, after `start`.
-fn note(tables: &[u16], noted: &mut [u16], rows: usize, start: usize, row: usize, far: usize)
-    requires { (rows ≤ base.rows) × (start ≤ base.roles * base.rows) × (far ≤ rows) × (Far tables.now start row far) × (Noted tables.now start rows noted.old) }
-    ensures { Noted tables.now start rows noted.new }
-{
-    let mut at = row;
-    let mut left = far;
-    while (0 < left) & (words::wide(words::peek(noted, at)) <= start) {
-        words::poke(noted, at, narrow(start + left));
-        let part = rows::row_at(tables, start, at);
-        at = words::wide(part.first);
-        left -= 1;
+    // Notes the rows on the way to a head, up to the first that was noted before.
+    fn note(&mut self, row: u16, far: u16)
+        requires { (far ≤ self.old.block.rows) × Far self.old.block.tables.now self.old.block.roles self.old.block.role row far }
+        ensures { self.new.block ≡ self.old.block }
+    {
+        let mut at = row;
+        for taken in 0..far {
+            let place = usize::from(at);
+            if self.block.start < words::peek(&self.noted, place) {
+                return;
+            }
+            words::poke(&mut self.noted, place, self.block.start + (far - taken));
+            match self.block.row(at) {
+                Row::Loop(body, ..) => at = body,
+                Row::Back(to, ..) => at = to,
+                _ => return,
+            }
+        }
     }
-}
 
-// So few steps are sooner gone again than noted. Few tables have a head further away.
-const NEAR: usize = 4;
-
-// Whether fewer steps than the block has rows lead from a row to its head.
-pub fn has_head(tables: &[u16], noted: &mut [u16], rows: usize, start: usize, row: usize) -> bool
-    requires { (rows ≤ base.rows) × (start ≤ base.roles * base.rows) × (rows ≤ row → Bad tables.now start rows) × (Noted tables.now start rows noted.old) }
-    ensures { (result ≡ true → has_head_at (rows - 1) tables.now start row ≡ true) × (result ≡ false → Headless tables.now start rows row) × (Noted tables.now start rows noted.new) }
-{
-    let far = steps(tables, noted, rows, start, row);
-    if rows <= far {
-        return false;
+    // Whether fewer steps than the block has rows lead from a row to its head.
+    pub fn has_head(&mut self, row: u16) -> bool
+        requires { row < self.old.block.rows }
+        ensures { (result ≡ true → has_head_in (self.old.block.rows - 1) self.old.block.tables.now self.old.block.roles self.old.block.role row ≡ true)
+            × (result ≡ false → Headless self.old.block.tables.now self.old.block.roles self.old.block.role row)
+            × (self.new.block ≡ self.old.block) }
+    {
+        let Some(far) = self.steps(row) else {
+            return false;
+        };
+        if Self::NEAR < far {
+            self.note(row, far);
+        }
+        true
     }
-    if far <= NEAR {
-        return true;
-    }
-    note(tables, noted, rows, start, row, far);
-    true
 }

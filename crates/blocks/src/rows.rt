@@ -1,153 +1,160 @@
-// The rows of one role's block. A block is named by its first row among the rows of the tables, `start`, and by how many rows it has.
-ghost use Rattle.std.specs.Prelude.{◌≡◌, ◌+◌, min};
+// The rows of one role's block.
+ghost use Rattle.std.specs.Prelude.{◌≡◌, ◌*◌, ◌<◌, ◌≤◌, get_or};
 ghost use Rattle.table.specs.Limits.{base};
-ghost use Rattle.blocks.specs.Block.{is_head};
-ghost use Rattle.blocks.specs.Head.{find, lowest_label};
-ghost use Rattle.blocks.specs.mirror.Rows.{words, no_words, said, follow_at, chain_at, found_of};
+ghost use Rattle.blocks.specs.Block.{part_row_of, part_row, block_rows, is_head};
+ghost use Rattle.blocks.specs.Head.{head, arms_of, find, lowest_label};
+ghost use Rattle.blocks.specs.mirror.Rows.{said, row_at, chain_at, found_of};
 
 use table::Table;
 
-// The first word decides what the other three hold.
-#[derive(Clone, Copy)]
-pub struct Row {
-    pub kind: u16,
-    pub first: u16,
-    pub second: u16,
-    pub third: u16,
+// The first word of a row decides what the other three hold.
+#[derive(Clone, Copy, Debug, PartialEq, Eq)]
+pub enum Row {
+    // Three unused words.
+    End(u16, u16, u16),
+    // Label, continuation, next arm (0 for none).
+    Arm(u16, u16, u16),
+    // Body, two unused words.
+    Loop(u16, u16, u16),
+    // Its loop's row, two unused words.
+    Back(u16, u16, u16),
+    // Peer, first arm, an unused word.
+    Send(u16, u16, u16),
+    Receive(u16, u16, u16),
+    // A kind that is none of these.
+    Other,
+}
+
+impl From<[u16; 4]> for Row {
+    ghost from_gives = { λ four row. said row ≡ part_row_of (get_or four 0 0) (get_or four 1 0) (get_or four 2 0) (get_or four 3 0) };
+
+    fn from([kind, first, second, third]: [u16; 4]) -> Self {
+        match kind {
+            0 => Row::End(first, second, third),
+            2 => Row::Arm(first, second, third),
+            3 => Row::Loop(first, second, third),
+            4 => Row::Back(first, second, third),
+            5 => Row::Send(first, second, third),
+            6 => Row::Receive(first, second, third),
+            _ => Row::Other,
+        }
+    }
 }
 
 impl Row {
-    pub const END: u16 = 0;
-
-    pub const ARM: u16 = 2;
-
-    pub const LOOP: u16 = 3;
-
-    pub const BACK: u16 = 4;
-
-    pub const SEND: u16 = 5;
-
-    pub const RECEIVE: u16 = 6;
-}
-
-// The arm lookup's answer: the continuation, or, where the label is not among the arms, the lowest label that is.
-#[derive(Clone, Copy)]
-pub enum Found {
-    At(u16),
-    Nothing(u16),
-}
-
-impl Found {
     // The lowest label of no arm: no label is so high.
     pub const NOLABEL: u16 = Table::LABELS as u16;
+
+    // A Send, a Receive or an End: where a role stands still.
+    pub fn stands(self) -> bool
+        ensures { result ≡ is_head (said self) }
+    {
+        matches!(self, Row::End(..) | Row::Send(..) | Row::Receive(..))
+    }
 }
 
-// No row of the tables: its words are 0.
-fn no_row() -> Row
-    ensures { result ≡ no_words }
+// A row of the block that begins at row `start`; past the end of the tables its words are 0.
+fn row_at(tables: &[u16], start: usize, row: u16) -> Row
+    ensures { said result ≡ row_at tables.now start row }
 {
-    Row {
-        kind: 0,
-        first: 0,
-        second: 0,
-        third: 0,
-    }
+    Row::from(words::row(tables, start.saturating_add(usize::from(row))))
 }
 
-// A row of the block; past the end of the tables its words are 0. One test serves all four words of a row inside.
-pub fn row_at(tables: &[u16], start: usize, row: usize) -> Row
-    ensures { result ≡ words tables.now (start + row) }
-{
-    let rows = tables.len() / 4;
-    if rows < start {
-        return no_row();
-    }
-    if row < rows - start {
-        let at = (start + row) * 4;
-        return Row {
-            kind: tables[at],
-            first: tables[at + 1],
-            second: tables[at + 2],
-            third: tables[at + 3],
-        };
-    }
-    if rows - start < row {
-        return no_row();
-    }
-    // The words after the last whole row.
-    let at = start + row;
-    let kind = words::word(tables, at, 0);
-    let first = words::word(tables, at, 1);
-    let second = words::word(tables, at, 2);
-    let third = words::word(tables, at, 3);
-    Row {
-        kind: kind,
-        first: first,
-        second: second,
-        third: third,
-    }
-}
-
-// The row where a role at `row` comes to stand: on through Loop and Back rows, at most as often as the block has rows.
-pub fn head(tables: &[u16], start: usize, rows: usize, row: u16) -> u16
-    ensures { result ≡ follow_at rows tables.now start row }
-{
-    let mut at = row;
-    let mut left = rows;
-    while 0 < left {
-        let part = row_at(tables, start, words::wide(at));
-        let kind = part.kind;
-        match kind {
-            Row::LOOP => at = part.first,
-            Row::BACK => at = part.first,
-            _ => return at,
-        }
-        left -= 1;
-    }
-    at
-}
-
-fn lower(a: u16, b: u16) -> u16
-    ensures { result ≡ min a b }
-{
-    if a < b { a } else { b }
-}
-
-// The continuation of the arm with that label, in the chain that starts at `first`: the one lookup of send, receive and awaited. A lookup
-// that fails has met every arm, and so knows the lowest label.
-pub fn find_arm(tables: &[u16], start: usize, rows: usize, first: u16, label: usize) -> Found
+// The continuation of the arm with that label, in the chain that starts at `first`, of at most that many rows: the one lookup of send,
+// receive and awaited. A lookup that fails has met every arm, and so knows the lowest label.
+#[tactic(auto, unfolding(crate::specs::mirror::Rows::lookup), using(crate::proofs::Walk::chain_none, crate::proofs::Walk::lookup_is))]
+pub fn find_arm(
+    tables: &[u16],
+    start: usize,
+    rows: usize,
+    first: u16,
+    label: usize,
+) -> Result<u16, u16>
     ensures { result ≡ found_of (find label (chain_at rows tables.now start first)) (lowest_label base.labels (chain_at rows tables.now start first)) }
 {
     let mut arm = first;
-    let mut left = rows;
-    let mut least = Found::NOLABEL;
-    while 0 < left {
+    let mut least = Row::NOLABEL;
+    for _ in 0..rows {
         if arm == 0 {
-            return Found::Nothing(least);
+            return Err(least);
         }
-        let part = row_at(tables, start, words::wide(arm));
-        if part.kind != Row::ARM {
-            return Found::Nothing(least);
+        let Row::Arm(offered, then, next) = row_at(tables, start, arm) else {
+            return Err(least);
+        };
+        if usize::from(offered) == label {
+            return Ok(then);
         }
-        if words::wide(part.first) == label {
-            return Found::At(part.second);
-        }
-        least = lower(least, part.first);
-        arm = part.third;
-        left -= 1;
+        least = least.min(offered);
+        arm = next;
     }
-    Found::Nothing(least)
+    Err(least)
 }
 
-// A Send, a Receive or an End: where a role stands still.
-pub fn stands(part: Row) -> bool
-    ensures { result ≡ is_head (said part) }
-{
-    let kind = part.kind;
-    match kind {
-        Row::END => true,
-        Row::SEND => true,
-        Row::RECEIVE => true,
-        _ => false,
+// A role's rows in the tables of so many roles, which make equal blocks.
+#[derive(Clone, Copy)]
+pub struct Block<'a> {
+    pub tables: &'a [u16],
+    pub roles: usize,
+    pub role: usize,
+    // How many rows the block has, and the first of them among the rows of the tables.
+    pub rows: u16,
+    pub start: u16,
+    pub ghost few: { (role < roles) × (roles ≤ base.roles) × (0 < rows) × (rows ≤ base.rows) },
+    pub ghost rows_are: { rows ≡ block_rows tables.now roles },
+    pub ghost starts: { start ≡ role * rows },
+}
+
+impl<'a> Block<'a> {
+    // A role's block, of so many rows.
+    pub(crate) fn new(tables: &'a [u16], roles: usize, rows: u16, role: usize) -> Self
+        requires { (role < roles) × (roles ≤ base.roles) × (0 < rows) × (rows ≤ base.rows) × (rows ≡ block_rows tables.now roles) }
+        ensures { (result.tables.now ≡ tables.now) × (result.roles ≡ roles) × (result.rows ≡ rows) × (result.role ≡ role) }
+    {
+        Block {
+            tables,
+            roles,
+            role,
+            rows,
+            start: role as u16 * rows,
+        }
+    }
+
+    // The block of another role of the same tables.
+    pub(crate) fn of_role(&self, role: usize) -> Self
+        requires { role < self.now.roles }
+        ensures { (result.tables.now ≡ self.now.tables.now) × (result.roles ≡ self.now.roles) × (result.rows ≡ self.now.rows) × (result.role ≡ role) }
+    {
+        Block::new(self.tables, self.roles, self.rows, role)
+    }
+
+    // A row of the block. Past the block's end it is the next block's, and past the end of the tables its words are 0.
+    pub fn row(&self, row: u16) -> Row
+        ensures { said result ≡ part_row self.now.tables.now self.now.roles self.now.role row }
+    {
+        row_at(self.tables, usize::from(self.start), row)
+    }
+
+    // The row where a role at `row` comes to stand: on through Loop and Back rows, at most as often as the block has rows.
+    #[tactic(auto, unfolding(crate::specs::Head::head, crate::specs::Head::follow))]
+    pub fn head(&self, row: u16) -> u16
+        ensures { result ≡ head self.now.tables.now self.now.roles self.now.role row }
+    {
+        let mut at = row;
+        for _ in 0..self.rows {
+            match self.row(at) {
+                Row::Loop(body, ..) => at = body,
+                Row::Back(to, ..) => at = to,
+                _ => return at,
+            }
+        }
+        at
+    }
+
+    // The lookup of an arm in this block.
+    pub fn find_arm(&self, first: u16, label: usize) -> Result<u16, u16>
+        ensures { result ≡ found_of (find label (arms_of self.now.tables.now self.now.roles self.now.role first)) (lowest_label base.labels (arms_of self.now.tables.now self.now.roles self.now.role first)) }
+    {
+        let start = usize::from(self.start);
+        find_arm(self.tables, start, usize::from(self.rows), first, label)
     }
 }

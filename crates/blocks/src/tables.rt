@@ -1,194 +1,173 @@
 // Rule 12: tables that are well formed for a step.
-ghost use Rattle.std.specs.Prelude.{◌≡◌, true, false, ◌*◌, ◌<◌, ◌≤◌};
+ghost use Rattle.std.specs.Prelude.{◌≡◌, true, false, ◌<◌, ◌≤◌, MatchOption};
 ghost use Rattle.words.specs.Below.{every};
 ghost use Rattle.table.specs.Limits.{base};
-ghost use Rattle.blocks.specs.Tables.{is_peer};
-ghost use Rattle.blocks.specs.mirror.Rows.{said};
-ghost use Rattle.blocks.specs.mirror.Tables.{to_arm_at, to_other_at, next_at, to_loop_at, row_holds_at, row_good_at, sized_rows, good_rows};
-ghost use Rattle.blocks.specs.mirror.Heads.{Noted};
+ghost use Rattle.blocks.specs.Block.{block_rows};
+ghost use Rattle.blocks.specs.Tables.{to_arm, to_other, is_peer, row_good, tables_good};
+ghost use Rattle.blocks.specs.mirror.Tables.{to_next, to_loop, sized_rows};
+ghost use Rattle.blocks.specs.mirror.Heads.{Bad};
 
-use crate::rows::Row;
-use crate::{heads, rows};
+use crate::heads::Notes;
+use crate::rows::{Block, Row};
 use table::Table;
 
-// A link from a row to an Arm of a higher number, inside the block.
-fn to_arm(tables: &[u16], start: usize, rows: usize, row: usize, link: u16) -> bool
-    ensures { result ≡ to_arm_at tables.now start rows row link }
-{
-    let to = words::wide(link);
-    let part = rows::row_at(tables, start, to);
-    (row < to) & (to < rows) & (part.kind == Row::ARM)
-}
+impl<'a> Block<'a> {
+    ghost use Rattle.blocks.specs.mirror.Rows.{said};
+    ghost use Rattle.blocks.specs.Tables.{row_holds};
 
-// A link from a row to a row that is no Arm, of a higher number, inside the block.
-fn to_other(tables: &[u16], start: usize, rows: usize, row: usize, link: u16) -> bool
-    ensures { result ≡ to_other_at tables.now start rows row link }
-{
-    let to = words::wide(link);
-    let part = rows::row_at(tables, start, to);
-    (row < to) & (to < rows) & (part.kind != Row::ARM)
-}
+    // A link from a row to an Arm of a higher number, inside the block.
+    fn to_arm(&self, row: u16, link: u16) -> bool
+        ensures { result ≡ to_arm self.now.tables.now self.now.roles self.now.role row link }
+    {
+        (row < link) & (link < self.rows) & matches!(self.row(link), Row::Arm(..))
+    }
 
-// After an arm with this label none comes, or one with a higher label.
-fn to_next(tables: &[u16], start: usize, rows: usize, row: usize, label: u16, link: u16) -> bool
-    ensures { result ≡ next_at tables.now start rows row label link }
-{
-    let to = words::wide(link);
-    let part = rows::row_at(tables, start, to);
-    (link == 0) | ((row < to) & (to < rows) & (part.kind == Row::ARM) & (label < part.first))
-}
+    // A link from a row to a row that is no Arm, of a higher number, inside the block.
+    fn to_other(&self, row: u16, link: u16) -> bool
+        ensures { result ≡ to_other self.now.tables.now self.now.roles self.now.role row link }
+    {
+        (row < link) & (link < self.rows) & !matches!(self.row(link), Row::Arm(..))
+    }
 
-// A Back's word: a Loop of a lower number.
-fn to_loop(tables: &[u16], start: usize, row: usize, link: u16) -> bool
-    ensures { result ≡ to_loop_at tables.now start row link }
-{
-    let to = words::wide(link);
-    let part = rows::row_at(tables, start, to);
-    (to < row) & (part.kind == Row::LOOP)
-}
-
-// A peer is another role.
-fn is_peer(roles: usize, role: usize, peer: u16) -> bool
-    ensures { result ≡ is_peer roles role peer }
-{
-    let other = words::wide(peer);
-    (other < roles) & (other != role)
-}
-
-// The kind of a row chooses the tests of its fields and links.
-fn row_holds(
-    tables: &[u16],
-    roles: usize,
-    rows: usize,
-    start: usize,
-    role: usize,
-    row: usize,
-    part: Row,
-) -> bool
-    ensures { result ≡ row_holds_at base tables.now roles rows start role row (said part) }
-{
-    let kind = part.kind;
-    match kind {
-        Row::END => (part.first == 0) & (part.second == 0) & (part.third == 0),
-        Row::ARM => {
-            let low = words::wide(part.first) < Table::LABELS;
-            let goes_on = to_other(tables, start, rows, row, part.second);
-            let rises = to_next(tables, start, rows, row, part.first, part.third);
-            (row != 0) & low & goes_on & rises
+    // After an arm with this label none comes, or one with a higher label.
+    fn to_next(&self, row: u16, label: u16, link: u16) -> bool
+        ensures { result ≡ to_next self.now.tables.now self.now.roles self.now.role row label link }
+    {
+        if link == 0 {
+            return true;
         }
-        Row::LOOP => to_other(tables, start, rows, row, part.first)
-            & (part.second == 0)
-            & (part.third == 0),
-        Row::BACK => to_loop(tables, start, row, part.first)
-            & (part.second == 0)
-            & (part.third == 0),
-        Row::SEND => {
-            let peer = is_peer(roles, role, part.first);
-            let arm = to_arm(tables, start, rows, row, part.second);
-            peer & arm & (part.third == 0)
+        match self.row(link) {
+            Row::Arm(higher, ..) => (row < link) & (link < self.rows) & (label < higher),
+            _ => false,
         }
-        Row::RECEIVE => {
-            let peer = is_peer(roles, role, part.first);
-            let arm = to_arm(tables, start, rows, row, part.second);
-            peer & arm & (part.third == 0)
+    }
+
+    // A Back's word: a Loop of a lower number.
+    fn to_loop(&self, row: u16, link: u16) -> bool
+        ensures { result ≡ to_loop self.now.tables.now self.now.roles self.now.role row link }
+    {
+        (link < row) & matches!(self.row(link), Row::Loop(..))
+    }
+
+    // A peer is another role.
+    fn is_peer(&self, peer: u16) -> bool
+        ensures { result ≡ is_peer self.now.roles self.now.role peer }
+    {
+        let other = usize::from(peer);
+        (other < self.roles) & (other != self.role)
+    }
+
+    // The kind of a row chooses the tests of its fields and links.
+    #[tactic(auto, unfolding(crate::specs::Tables::row_holds))]
+    fn row_holds(&self, row: u16, part: Row) -> bool
+        ensures { result ≡ row_holds base self.now.tables.now self.now.roles self.now.role row (said part) }
+    {
+        match part {
+            Row::End(first, second, third) => (first == 0) & (second == 0) & (third == 0),
+            Row::Arm(label, then, next) => {
+                let low = usize::from(label) < Table::LABELS;
+                (row != 0) & low & self.to_other(row, then) & self.to_next(row, label, next)
+            }
+            Row::Loop(body, second, third) => {
+                self.to_other(row, body) & (second == 0) & (third == 0)
+            }
+            Row::Back(to, second, third) => self.to_loop(row, to) & (second == 0) & (third == 0),
+            Row::Send(peer, first, third) => {
+                self.is_peer(peer) & self.to_arm(row, first) & (third == 0)
+            }
+            Row::Receive(peer, first, third) => {
+                self.is_peer(peer) & self.to_arm(row, first) & (third == 0)
+            }
+            Row::Other => false,
         }
-        _ => false,
     }
 }
 
-// A row is well formed, and has a head if it is no Arm. Only a Loop or a Back is followed: a row of another kind is its own head.
-fn row_good(
-    tables: &[u16],
-    noted: &mut [u16],
-    roles: usize,
-    rows: usize,
-    start: usize,
-    role: usize,
-    row: usize,
-) -> bool
-    requires { (rows ≤ base.rows) × (start ≤ base.roles * base.rows) × (row < rows) × (Noted tables.now start rows noted.old) }
-    ensures { (result ≡ true → row_good_at base tables.now roles rows start role row ≡ true)
-        × (result ≡ false → every (λ i. row_good_at base tables.now roles rows start role i) rows ≡ false)
-        × (Noted tables.now start rows noted.new) }
-{
-    let part = rows::row_at(tables, start, row);
-    if !row_holds(tables, roles, rows, start, role, row, part) {
-        return false;
+impl<'a> Notes<'a> {
+    // A row is well formed, and has a head if it is no Arm. Only a Loop or a Back is followed: a row of another kind is its own head.
+    fn row_good(&mut self, row: u16) -> bool
+        requires { row < self.old.block.rows }
+        ensures { (result ≡ true → row_good base self.old.block.tables.now self.old.block.roles self.old.block.role row ≡ true)
+            × (result ≡ false → Bad self.old.block.tables.now self.old.block.roles self.old.block.role)
+            × (self.new.block ≡ self.old.block) }
+    {
+        let part = self.block.row(row);
+        if !self.block.row_holds(row, part) {
+            return false;
+        }
+        match part {
+            Row::Loop(body, ..) => self.has_head(body),
+            Row::Back(to, ..) => self.has_head(to),
+            _ => true,
+        }
     }
-    if (part.kind == Row::LOOP) | (part.kind == Row::BACK) {
-        heads::has_head(tables, noted, rows, start, words::wide(part.first))
-    } else {
+
+    fn block_good(&mut self) -> bool
+        ensures { (result ≡ every (λ i. row_good base self.old.block.tables.now self.old.block.roles self.old.block.role i) (block_rows self.old.block.tables.now self.old.block.roles))
+            × (self.new.block ≡ self.old.block) }
+    {
+        for row in 0..self.block.rows {
+            if !self.row_good(row) {
+                return false;
+            }
+        }
         true
     }
 }
 
-fn block_good(
-    tables: &[u16],
-    noted: &mut [u16],
-    roles: usize,
-    rows: usize,
-    start: usize,
-    role: usize,
-) -> bool
-    requires { (rows ≤ base.rows) × (start ≤ base.roles * base.rows) × (Noted tables.now start rows noted.old) }
-    ensures { (result ≡ every (λ i. row_good_at base tables.now roles rows start role i) rows)
-        × (Noted tables.now start rows noted.new) }
-{
-    let mut row = 0;
-    while row < rows {
-        if !row_good(tables, noted, roles, rows, start, role, row) {
-            return false;
-        }
-        row += 1;
-    }
-    true
-}
-
-// The blocks share one array of notes: what an earlier block left there is at most the next block's `start`.
-fn blocks_good(tables: &[u16], roles: usize, rows: usize) -> bool
-    requires { (roles ≤ base.roles) × (rows ≤ base.rows) }
-    ensures { result ≡ every (λ p. every (λ i. row_good_at base tables.now roles rows (p * rows) p i) rows) roles }
-{
-    let mut noted = [0u16; Table::ROWS];
-    let mut role = 0;
-    let mut start = 0;
-    while role < roles {
-        if !block_good(tables, &mut noted, roles, rows, start, role) {
-            return false;
-        }
-        start += rows;
-        role += 1;
-    }
-    true
-}
-
-// How many rows each role's block has, by the length of the tables; 0 where the roles are too few or too many, or the words do not make equal
-// blocks of 1 to the limit's rows.
-fn block_rows(tables: &[u16], roles: usize) -> usize
+// How many rows each role's block has, by the length of the tables; none where the roles are too few or too many, or the words do not make
+// equal blocks of 1 to the limit's rows.
+fn block_rows(tables: &[u16], roles: usize) -> Option<u16>
     ensures { result ≡ sized_rows base tables.now roles }
 {
     if (roles < Table::FEWEST_ROLES) | (Table::ROLES < roles) {
-        return 0;
+        return None;
     }
     let rows = tables.len() / 4 / roles;
     if (roles * rows * 4 == tables.len()) & (0 < rows) & (rows <= Table::ROWS) {
-        rows
+        Some(rows as u16)
     } else {
-        0
+        None
     }
 }
 
-// How many rows each block of good tables has; 0 for tables that are not good. The one test of rule 12.
-pub fn rows_of(tables: &[u16], roles: usize) -> usize
-    ensures { result ≡ good_rows base tables.now roles }
-{
-    let rows = block_rows(tables, roles);
-    if rows == 0 {
-        return 0;
+// Tables that are well formed for a step: each role has a block of so many rows.
+#[derive(Clone, Copy)]
+pub struct Blocks<'a> {
+    pub tables: &'a [u16],
+    pub roles: usize,
+    pub rows: u16,
+    pub ghost few: { (roles ≤ base.roles) × (0 < rows) × (rows ≤ base.rows) },
+    pub ghost rows_are: { rows ≡ block_rows tables.now roles },
+    pub ghost good: { tables_good base tables.now roles ≡ true },
+}
+
+impl<'a> Blocks<'a> {
+    // The one test of rule 12: none for tables that are not well formed.
+    pub fn of(tables: &'a [u16], roles: usize) -> Option<Self>
+        ensures { MatchOption result (tables_good base tables.now roles ≡ false)
+            (λ blocks. (tables_good base tables.now roles ≡ true) × (blocks.tables.now ≡ tables.now) × (blocks.roles ≡ roles)) }
+    {
+        let rows = block_rows(tables, roles)?;
+        let mut notes = Notes::new(Block::new(tables, roles, rows, 0));
+        for role in 0..roles {
+            notes.enter(role);
+            if !notes.block_good() {
+                return None;
+            }
+        }
+        Some(Blocks {
+            tables,
+            roles,
+            rows,
+        })
     }
-    if blocks_good(tables, roles, rows) {
-        rows
-    } else {
-        0
+
+    // The block of a role.
+    pub fn block(&self, role: usize) -> Block<'a>
+        requires { role < self.now.roles }
+        ensures { (result.tables.now ≡ self.now.tables.now) × (result.roles ≡ self.now.roles) × (result.role ≡ role) }
+    {
+        Block::new(self.tables, self.roles, self.rows, role)
     }
 }

@@ -1,43 +1,28 @@
--- `rows::find_arm` meets its contract. The loop's invariant: what the rest of the chain holds of the label, with the lowest label so far, is what the
--- whole holds. Assumes nothing.
-use Prim.Native.Nat.{◌-◌, suc}
-use mathlib.Core.Path.{ap, ◌≡◌, sym, ◌∙◌}
-use Rattle.blocks.proofs.Walk.{chain_none, chain_no_more, lookup_end, lookup_here, lookup_on, lookup_is}
-use native.Mathlib.Omega.{arith}
-use Rattle.table.specs.Limits.{base}
+-- `rows::find_arm` meets its contract. Assumes nothing.
+use Rattle.std.proofs.Common.{◌≡◌, ◌-◌, ◌+◌, sym, ◌∙◌, suc, arith}
 use Rattle.blocks.specs.mirror.Rows.{chain_at, lookup}
+use Rattle.blocks.proofs.Walk.{lookup_ends, lookup_here, lookup_on, lookup_is}
 use Rattle.blocks.proofs.rows.find_arm.Goals as goal
 
-pub returns-then-arm-eq0 : goal.returns-then-arm-eq0
-unfolding lookup
-returns-then-arm-eq0 c =
-    let a = c.args in
-    sym (c.loop-left.invariant ∙ ap (lookup a.label c.loop-left.least) (chain_none _ _ _ _ c.if-arm-eq0.true))
-    ∙ lookup_is a.label base.labels (chain_at a.rows a.tables.now a.start a.first)
+pub returns-in_default : goal.returns-in_default
+returns-in_default c =
+    let e : c.args.rows - c.loop.counter ≡ suc (c.args.rows - (c.loop.counter + 1)) = omega arith in
+    sym (c.loop.invariant ∙ lookup_ends _ _ _ _ e c.row_at.ensures c.if-arm-eq0.false _ _ c.in_default.not-Arm) ∙ lookup_is _ _ _
 
-pub returns-then-part-ne-ARM : goal.returns-then-part-ne-ARM
-returns-then-part-ne-ARM c =
-    let a = c.args in
-    let e : c.loop-left.left ≡ suc (c.loop-left.left - 1) = omega arith in
-    sym (c.loop-left.invariant ∙ lookup_end a.tables.now a.start a.label e c.if-arm-eq0.false c.wide.ensures.0 c.row_at-part.ensures c.loop-left.least c.if-part-ne-ARM.true)
-    ∙ lookup_is a.label base.labels (chain_at a.rows a.tables.now a.start a.first)
+pub returns-then-from-label : goal.returns-then-from-label
+returns-then-from-label c =
+    let e : c.args.rows - c.loop.counter ≡ suc (c.args.rows - (c.loop.counter + 1)) = omega arith in
+    sym (c.loop.invariant ∙ lookup_here _ _ _ _ e c.row_at.ensures c.if-arm-eq0.false c.in-Arm.is _ _ (sym c.from.ensures ∙ c.if-from-label.true))
+    ∙ lookup_is _ _ _
 
-pub returns-then-wide-label : goal.returns-then-wide-label
-returns-then-wide-label c =
-    let a = c.args in
-    let e : c.loop-left.left ≡ suc (c.loop-left.left - 1) = omega arith in
-    sym (c.loop-left.invariant ∙ lookup_here a.tables.now a.start a.label e c.if-arm-eq0.false c.wide.ensures.0 c.row_at-part.ensures c.loop-left.least c.if-part-ne-ARM.false (sym c.wide-in-loop-left.ensures.0 ∙ c.if-wide-label.true))
-    ∙ lookup_is a.label base.labels (chain_at a.rows a.tables.now a.start a.first)
-
-pub loop-left-preserved : goal.loop-left-preserved
-loop-left-preserved c =
-    let a = c.args in
-    let e : c.loop-left.left ≡ suc (c.loop-left.left - 1) = omega arith in
-    c.loop-left.invariant ∙ lookup_on a.tables.now a.start a.label e c.if-arm-eq0.false c.wide.ensures.0 c.row_at-part.ensures c.loop-left.least _ c.if-part-ne-ARM.false (λ q. c.if-wide-label.false (c.wide-in-loop-left.ensures.0 ∙ q)) c.lower-least.ensures
+pub loop-preserved : goal.loop-preserved
+loop-preserved c =
+    let e : c.args.rows - c.loop.counter ≡ suc (c.args.rows - (c.loop.counter + 1)) = omega arith in
+    rw c.min-least.ensures
+    (c.loop.invariant ∙ lookup_on _ _ _ _ e c.row_at.ensures c.if-arm-eq0.false c.in-Arm.is _ _ (λ q. c.if-from-label.false (c.from.ensures ∙ q)))
 
 pub returns : goal.returns
-unfolding lookup
+unfolding lookup chain_at
 returns c =
-    let a = c.args in
-    sym (c.loop-left.invariant ∙ ap (lookup a.label c.loop-left.least) (chain_no_more _ _ _ (omega arith)))
-    ∙ lookup_is a.label base.labels (chain_at a.rows a.tables.now a.start a.first)
+    let e : c.args.rows - c.loop.counter ≡ 0 = omega arith in
+    sym (c.loop.invariant ∙ rw (e, chain_at)) ∙ lookup_is _ _ _
