@@ -1,5 +1,5 @@
 -- `rows::find_arm` meets its contract. Assumes nothing.
-use Rattle.std.proofs.Common.{◌≡◌, ◌-◌, ◌+◌, sym, ◌∙◌, suc, arith}
+use Rattle.std.proofs.Common.{◌≡◌, ◌-◌, ◌+◌, sym, ◌∙◌, suc, arith, rules}
 use Rattle.blocks.specs.mirror.Rows.{chain_at, lookup}
 use Rattle.blocks.proofs.Walk.{lookup_ends, lookup_here, lookup_on, lookup_is}
 use Rattle.blocks.proofs.rows.find_arm.Goals as goal
@@ -18,8 +18,9 @@ returns-then-from-label c =
 pub loop-preserved : goal.loop-preserved
 loop-preserved c =
     let e : c.args.rows - c.loop.counter ≡ suc (c.args.rows - (c.loop.counter + 1)) = omega arith in
-    rw c.min-least.ensures
-    (c.loop.invariant ∙ lookup_on _ _ _ _ e c.row_at.ensures c.if-arm-eq0.false c.in-Arm.is _ _ (λ q. c.if-from-label.false (c.from.ensures ∙ q)))
+    let on = c.loop.invariant
+      ∙ lookup_on _ _ _ _ e c.row_at.ensures c.if-arm-eq0.false c.in-Arm.is _ _ (λ q. c.if-from-label.false (c.from.ensures ∙ q)) in
+    search (rules, on)
 
 pub returns : goal.returns
 unfolding lookup chain_at
