@@ -15,13 +15,13 @@ use Rattle.std.specs.Bool.{then_some}
 use Rattle.words.proofs.Below.{every_fails}
 use Rattle.table.specs.Limits.{base}
 use Rattle.blocks.specs.Block.{part_row, block_rows, is_arm, is_head}
-use Rattle.blocks.specs.Head.{follow, head, onward}
+use Rattle.blocks.specs.Head.{follow, head}
 use Rattle.blocks.specs.Tables.{row_holds, row_good}
 use Rattle.blocks.specs.mirror.Rows.{said}
 use Rattle.blocks.specs.mirror.Heads.{has_head_in, Far, NotedOf, Noted, Bad, Headless, Steps}
 use Rattle.blocks.specs.declared.rows.Row.{Row}
 use Rattle.blocks.specs.declared.rows.Row.TheVariants.{Loop, Back}
-use Rattle.blocks.proofs.Walk.{follow_step, onward_stays}
+use Rattle.blocks.proofs.Walk.{Onward, onward_kind, follow_step, follow_on, onward_stays}
 
 module _ (ts : List ℕ) (roles r : ℕ) where
   -- ---- one step
@@ -33,18 +33,11 @@ module _ (ts : List ℕ) (roles r : ℕ) where
 
   -- w is row i
   module _ (i : ℕ) {w : Row} (read : said w ≡ part_row ts roles r i) where
-    pub loop_leads : {b x y : ℕ} → w ≡ Loop b x y → Leads i b
-    unfolding follow onward
-    loop_leads k = record {
-      moves = rw (sym read, k);
-      on = λ n. ap (λ (j : ℕ). is_head (part_row ts roles r j)) (follow_step ts roles r {m = n} i w refl read ∙ rw k);
-    }
-
-    pub back_leads : {j x y : ℕ} → w ≡ Back j x y → Leads i j
-    unfolding follow onward
-    back_leads k = record {
-      moves = rw (sym read, k);
-      on = λ n. ap (λ (j : ℕ). is_head (part_row ts roles r j)) (follow_step ts roles r {m = n} i w refl read ∙ rw k);
+    pub leads_on_lem : (j : ℕ) → Onward w j → Leads i j
+    unfolding follow
+    leads_on_lem j o = record {
+      moves = rw (← read, (onward_kind w j o).1);
+      on = λ n. ap (λ (k : ℕ). is_head (part_row ts roles r k)) (follow_on ts roles r {m = n} i j w refl read o);
     }
 
     -- a row that is no Loop and no Back is where following stays
@@ -119,15 +112,12 @@ module _ (ts : List ℕ) (roles r : ℕ) where
     pub bad_row : row_good base ts roles r i ≡ false → Bad ts roles r
     bad_row e = every_fails (λ k. row_good base ts roles r k) (block_rows ts roles) i (omega (arith, rows_are)) e
 
-    module _ {w : Row} (read : said w ≡ part_row ts roles r i) where
-      -- a Loop or a Back leads out of the block
-      pub loop_out : {b x y : ℕ} → w ≡ Loop b x y → rows ≤ b → Bad ts roles r
-      unfolding row_holds
-      loop_out {b} k out = bad_row (rw (sym read, k, le-ltb b (block_rows ts roles) (omega (arith, rows_are)), and-false (ltb i b)))
-
-      pub back_out : {j x y : ℕ} → w ≡ Back j x y → rows ≤ j → Bad ts roles r
-      unfolding row_holds
-      back_out {j} k out = bad_row (rw (sym read, k, le-ltb j i (omega arith)))
+    -- w is row i, a Loop or a Back, and leads out of the block
+    pub leads_out : {w : Row} (j : ℕ) → said w ≡ part_row ts roles r i → Onward w j → rows ≤ j → Bad ts roles r
+    unfolding row_holds
+    leads_out {w} j read o out =
+        bad_row (⊎_elim (λ (x, y, k). rw (← read, k, le-ltb j (block_rows ts roles) (omega (arith, rows_are)), and-false (ltb i j)))
+        (λ (x, y, k). rw (← read, k, le-ltb j i (omega arith))) o)
 
   -- ---- heads that are found, or not
 

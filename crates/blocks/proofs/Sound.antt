@@ -2,6 +2,7 @@
 use Prim.Native.Nat.{ℕ, zero, suc, ◌<◌}
 use mathlib.Core.Bool.{Bool, true, false, cond, ◌&&◌, ◌||◌, not, true≢false}
 use mathlib.Core.List.{List}
+use mathlib.Core.Logic.{⊎_elim}
 use mathlib.Core.Option.{Option, none, some}
 use mathlib.Core.Path.{◌≡◌, refl, sym, ◌∙◌}
 use lib.Dec.{eqb, ltb}
@@ -14,6 +15,9 @@ use Rattle.table.specs.Rules.{roles_broken}
 use Rattle.blocks.specs.Block.{PartRow, End, Arm, Loop, Back, Send, Receive, Other, part_row, block_rows, is_arm, is_head, is_loop, label}
 use Rattle.blocks.specs.Head.{onward, follow, head, arm_then, chain, arms_of, find}
 use Rattle.blocks.specs.Tables.{tables_good, sizes_good, row_holds, row_good, to_arm, to_other, is_peer}
+use Rattle.blocks.specs.mirror.Rows.{said}
+use Rattle.blocks.specs.declared.rows.Row.{Row}
+use Rattle.blocks.proofs.Walk.{Onward}
 use Rattle.blocks.proofs.Good.{both, Sized}
 
 either : (a b : Bool) → (a || b) ≡ true → (a ≡ false) → b ≡ true
@@ -58,17 +62,22 @@ module _ (ts : List ℕ) (roles r i j : ℕ) where
 
 -- where a Loop and a Back that hold lead
 module _ (lim : Limits) (ts : List ℕ) (roles r i : ℕ) where
-  pub loop_inside : (b x y : ℕ) → row_holds lim ts roles r i (Loop b x y) ≡ true → b < block_rows ts roles
+  loop_inside : (b x y : ℕ) → row_holds lim ts roles r i (Loop b x y) ≡ true → b < block_rows ts roles
   unfolding row_holds
   loop_inside b x y h =
       (to_other_in ts roles r i b (both (to_other ts roles r i b) (eqb x 0) (both (to_other ts roles r i b && eqb x 0) (eqb y 0) h).0).0).0
 
-  pub back_below : (j x y : ℕ) → row_holds lim ts roles r i (Back j x y) ≡ true → j < i
+  back_below : (j x y : ℕ) → row_holds lim ts roles r i (Back j x y) ≡ true → j < i
   unfolding row_holds
   back_below j x y h =
       let (abc, d) = both (ltb j i && is_loop (part_row ts roles r j) && eqb x 0) (eqb y 0) h in
       let (ab, c) = both (ltb j i && is_loop (part_row ts roles r j)) (eqb x 0) abc in
       ltb-true _ _ (both (ltb j i) (is_loop (part_row ts roles r j)) ab).0
+
+  -- w holds and leads on to row j
+  pub onward_inside : (w : Row) (j : ℕ) → i < block_rows ts roles → Onward w j → row_holds lim ts roles r i (said w) ≡ true → j < block_rows ts roles
+  onward_inside w j l o h =
+      ⊎_elim (λ (x, y, k). loop_inside j x y (rw k at h)) (λ (x, y, k). let low = back_below j x y (rw k at h) in omega arith) o
 
 -- what a lookup of the label l found: l is a label, and the continuation c a row of the block that is no Arm
 pub record Reached (lim : Limits) (ts : List ℕ) (roles r l c : ℕ) : Type 0 where

@@ -2,12 +2,13 @@
 use Prim.Native.Nat.{ℕ, zero, suc, ◌*◌, min}
 use mathlib.Core.Bool.{Bool, true, false, cond}
 use mathlib.Core.List.{List, [], ◌∷◌}
+use mathlib.Core.Logic.{◌⊎◌, ⊎_elim}
 use mathlib.Core.Path.{◌≡◌, refl, sym, ◌∙◌, ap}
 use mathlib.Core.Option.{some}
 use lib.Dec.{eqb}
 use borrow.Author.Tests.{eq-eqb, ne_eqb}
 use Rattle.std.specs.Prelude.{Ok, Err}
-use Rattle.blocks.specs.Block.{PartRow, part_row, block_rows}
+use Rattle.blocks.specs.Block.{PartRow, part_row, block_rows, is_arm, is_head}
 use Rattle.blocks.specs.Head.{onward, follow, arm_then, chain, arms_of, find, lowest_label, ArmAt}
 use Rattle.blocks.specs.mirror.Rows.{said, row_at, chain_at, found_of, lookup}
 use Rattle.blocks.specs.declared.rows.Row.{Row}
@@ -40,6 +41,19 @@ pub follow_step : (ts : List ℕ) (roles r : ℕ) {n m : ℕ} (i : ℕ) (w : Row
     → follow n ts roles r i ≡ onward (λ j. follow m ts roles r j) i (said w)
 unfolding follow
 follow_step ts roles r i w e read = rw (e, read)
+
+-- w is a Loop or a Back, and leads on to row j
+abbrev pub Onward : Row → ℕ → Type 0
+Onward w j = ((x : ℕ) × (y : ℕ) × (w ≡ Loop j x y)) ⊎ ((x : ℕ) × (y : ℕ) × (w ≡ Back j x y))
+
+-- such a row is no Arm and no head
+pub onward_kind : (w : Row) (j : ℕ) → Onward w j → (is_arm (said w) ≡ false) × (is_head (said w) ≡ false)
+onward_kind w j = ⊎_elim (λ (x, y, e). rw e (refl, refl)) (λ (x, y, e). rw e (refl, refl))
+
+pub follow_on : (ts : List ℕ) (roles r : ℕ) {n m : ℕ} (i j : ℕ) (w : Row) → n ≡ suc m → said w ≡ part_row ts roles r i → Onward w j
+    → follow n ts roles r i ≡ follow m ts roles r j
+unfolding onward
+follow_on ts roles r i j w e read = ⊎_elim (λ (x, y, k). follow_step ts roles r i w e read ∙ rw k) (λ (x, y, k). follow_step ts roles r i w e read ∙ rw k)
 
 chain_more : (ts : List ℕ) (start m i : ℕ) → (i ≡ 0 → ⊥) → chain_at (suc m) ts start i ≡ arm_then (λ j. chain_at m ts start j) (row_at ts start i)
 unfolding chain_at

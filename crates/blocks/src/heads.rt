@@ -49,8 +49,7 @@ impl<'a> Notes<'a> {
         for taken in 0..rows {
             let part = self.block.row(at);
             let on = match part {
-                Row::Loop(body, ..) => body,
-                Row::Back(to, ..) => to,
+                Row::Loop(on, ..) | Row::Back(on, ..) => on,
                 _ => return part.stands().then_some(taken),
             };
             let left = words::peek(&self.noted, usize::from(at)).saturating_sub(self.block.start);
@@ -79,8 +78,7 @@ impl<'a> Notes<'a> {
             }
             words::poke(&mut self.noted, place, self.block.start + (far - taken));
             match self.block.row(at) {
-                Row::Loop(body, ..) => at = body,
-                Row::Back(to, ..) => at = to,
+                Row::Loop(on, ..) | Row::Back(on, ..) => at = on,
                 _ => return,
             }
         }

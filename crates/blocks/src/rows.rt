@@ -142,8 +142,7 @@ impl<'a> Block<'a> {
         let mut at = row;
         for _ in 0..self.rows {
             match self.row(at) {
-                Row::Loop(body, ..) => at = body,
-                Row::Back(to, ..) => at = to,
+                Row::Loop(on, ..) | Row::Back(on, ..) => at = on,
                 _ => return at,
             }
         }

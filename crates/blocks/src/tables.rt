@@ -96,8 +96,7 @@ impl<'a> Notes<'a> {
             return false;
         }
         match part {
-            Row::Loop(body, ..) => self.has_head(body),
-            Row::Back(to, ..) => self.has_head(to),
+            Row::Loop(on, ..) | Row::Back(on, ..) => self.has_head(on),
             _ => true,
         }
     }

@@ -19,7 +19,7 @@ pub loop-preserved : goal.loop-preserved
 loop-preserved c =
     let e : c.args.rows - c.loop.counter ≡ suc (c.args.rows - (c.loop.counter + 1)) = omega arith in
     let on = c.loop.invariant
-      ∙ lookup_on _ _ _ _ e c.row_at.ensures c.if-arm-eq0.false c.in-Arm.is _ _ (λ q. c.if-from-label.false (c.from.ensures ∙ q)) in
+    ∙ lookup_on _ _ _ _ e c.row_at.ensures c.if-arm-eq0.false c.in-Arm.is _ _ (λ q. c.if-from-label.false (c.from.ensures ∙ q)) in
     search (rules, on)
 
 pub returns : goal.returns

@@ -1,8 +1,9 @@
 -- `heads::Notes::steps` meets its contract. Assumes nothing.
-use Rattle.std.proofs.Common.{◌≡◌, ◌-◌, ◌*◌, sym, get_or, inl, arith}
+use Rattle.std.proofs.Common.{◌≡◌, ◌-◌, ◌*◌, get_or, inl, arith}
 use Rattle.blocks.specs.Block.{block_rows}
-use Rattle.blocks.proofs.Far.{came_on, came_stands, came_known, loop_leads, back_leads, stays, loop_out, back_out}
-use Rattle.blocks.proofs.heads.Notes.steps.Goals.{in-Loop, in-Back}
+use Rattle.blocks.proofs.Far.{came_on, came_stands, came_known, leads_on_lem, stays, leads_out}
+use Rattle.blocks.proofs.Walk.{Onward}
+use Rattle.blocks.proofs.heads.Notes.steps.Goals.{in-Loop, in-Loop-2}
 use Rattle.blocks.proofs.heads.Notes.steps.Goals as goal
 
 pub returns-in_default : goal.returns-in_default
@@ -23,14 +24,10 @@ returns-then-left-gt0 c =
 
 pub returns-then-rows-on : goal.returns-then-rows-on
 returns-then-rows-on c =
-    inl (elim c.match-part.branch [
-      | in-Loop w ↦ loop_out _ _ _ _ _ c.args.self.now.block.rows_are c.loop-taken.invariant.0 c.row-part.ensures w.in-Loop.is (rw (sym w.on-is) c.if-rows-on.true)
-      | in-Back w ↦ back_out _ _ _ _ _ c.args.self.now.block.rows_are c.loop-taken.invariant.0 c.row-part.ensures w.in-Back.is (rw (sym w.on-is) c.if-rows-on.true)
-    ])
+    let o : Onward c.row-part.result c.match-part.on = elim c.match-part.branch [ in-Loop w ↦ rw w.on-is w.in-Loop.is | in-Loop-2 w ↦ rw w.on-is w.in-Loop.is ] in
+    inl (leads_out _ _ _ _ _ c.args.self.now.block.rows_are c.loop-taken.invariant.0 _ c.row-part.ensures o c.if-rows-on.true)
 
 pub loop-taken-preserved : goal.loop-taken-preserved
 loop-taken-preserved c =
-    elim c.match-part.branch [
-      | in-Loop w ↦ (omega arith, rw w.on-is (came_on _ _ _ _ _ _ _ c.loop-taken.invariant.1 (loop_leads _ _ _ _ c.row-part.ensures w.in-Loop.is)))
-      | in-Back w ↦ (omega arith, rw w.on-is (came_on _ _ _ _ _ _ _ c.loop-taken.invariant.1 (back_leads _ _ _ _ c.row-part.ensures w.in-Back.is)))
-    ]
+    let o : Onward c.row-part.result c.match-part.on = elim c.match-part.branch [ in-Loop w ↦ rw w.on-is w.in-Loop.is | in-Loop-2 w ↦ rw w.on-is w.in-Loop.is ] in
+    (omega arith, came_on _ _ _ _ _ _ _ c.loop-taken.invariant.1 (leads_on_lem _ _ _ _ c.row-part.ensures _ o))
