@@ -1,1 +1,1 @@
-pub mod Forward
+mod Queue

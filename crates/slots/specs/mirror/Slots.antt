@@ -1,5 +1,5 @@
 -- One queue's slots in a column: one of them written, and the first taken out. Assumes nothing.
-use Rattle.std.specs.Prelude.{ℕ, ◌+◌, ◌*◌, cond, ◌&&◌, List, [], ◌∷◌, ltb, get_or, set}
+use Rattle.std.specs.Prelude.{ℕ, ◌+◌, ◌*◌, cond, ◌&&◌, List, [], ◌∷◌, ◌++◌, ltb, get_or, set, take, drop}
 use Rattle.std.proofs.lemmas.List.Edits.{sets}
 use Rattle.table.specs.Limits.{Limits}
 
@@ -7,22 +7,25 @@ use Rattle.table.specs.Limits.{Limits}
 abbrev pub pairs : Limits → ℕ
 pairs lim = lim.roles * lim.roles
 
--- four words from a place on, and four written there
-abbrev pub slots : List ℕ → ℕ → List ℕ
-slots ws at = get_or ws (at + 0) 0 ∷ get_or ws (at + 1) 0 ∷ get_or ws (at + 2) 0 ∷ get_or ws (at + 3) 0 ∷ []
+-- the slots of a pair, and others written there
+abbrev pub slots : {A : Type 0} → Limits → List A → ℕ → List A
+slots lim ws pair = take lim.depth (drop (pair * lim.depth) ws)
 
-abbrev pub written : List ℕ → ℕ → List ℕ → List ℕ
-written ws at held = sets ws (at + 0) (get_or held 0 0 ∷ get_or held 1 0 ∷ get_or held 2 0 ∷ get_or held 3 0 ∷ [])
+abbrev pub written : {A : Type 0} → Limits → List A → ℕ → List A → List A
+written lim ws pair held = sets ws (pair * lim.depth) held
 
 -- x in slot k of that pair
-abbrev pub pushed_at : Limits → List ℕ → ℕ → ℕ → ℕ → List ℕ
+abbrev pub pushed_at : {A : Type 0} → Limits → List A → ℕ → ℕ → A → List A
 pushed_at lim ws pair k x = cond (ltb pair (pairs lim) && ltb k lim.depth) (set ws (pair * lim.depth + k) x) ws
 
--- the first slot of that pair, and the words without it: the rest come forward, and the last is 0
-abbrev pub oldest : Limits → List ℕ → ℕ → ℕ
-oldest lim ws pair = cond (ltb pair (pairs lim)) (get_or ws (pair * lim.depth + 0) 0) 0
+-- the words of a queue without the first: the rest come forward, and the last is free
+abbrev pub forward : {A : Type 0} → A → List A → List A
+forward free [] = []
+forward free (w ∷ ws) = ws ++ (free ∷ [])
 
-abbrev pub came_forward : Limits → List ℕ → ℕ → List ℕ
-came_forward lim ws pair =
-    let at = pair * lim.depth in
-    cond (ltb pair (pairs lim)) (sets ws (at + 0) (get_or ws (at + 1) 0 ∷ get_or ws (at + 2) 0 ∷ get_or ws (at + 3) 0 ∷ 0 ∷ [])) ws
+-- the first slot of that pair, and the words without it
+abbrev pub oldest : {A : Type 0} → Limits → A → List A → ℕ → A
+oldest lim free ws pair = cond (ltb pair (pairs lim)) (get_or ws (pair * lim.depth + 0) free) free
+
+abbrev pub came_forward : {A : Type 0} → Limits → A → List A → ℕ → List A
+came_forward lim free ws pair = cond (ltb pair (pairs lim)) (written lim ws pair (forward free (slots lim ws pair))) ws

@@ -1,6 +1,0 @@
--- `slots::payloads_of` meets its contract. Assumes nothing.
-use native.Mathlib.Nat.{add-zero}
-use Rattle.slots.proofs.payloads_of.Goals as goal
-
-pub returns : goal.returns
-returns c = rw add-zero
