@@ -1,7 +1,7 @@
 -- Laws of the awaited roles, as the loop that finds them needs them. Assumes nothing.
 use Prim.Native.Nat.{ℕ, ◌+◌, ◌*◌, ◌<◌}
 use mathlib.Core.Bool.{Bool, true}
-use mathlib.Core.List.{List, []}
+use mathlib.Core.List.{List}
 use mathlib.Core.Path.{◌≡◌, refl, ◌∙◌, ap}
 use native.Mathlib.Omega.{arith}
 use Rattle.table.specs.Limits.{base}
@@ -11,7 +11,6 @@ use Rattle.blocks.specs.declared.rows.Row.{Row}
 use Rattle.blocks.specs.mirror.Rows.{words, said}
 use Rattle.state.specs.State.{State, head_of, state_good}
 use Rattle.state.specs.Awaited.{can_act, is_awaited}
-use Rattle.state.specs.mirror.State.{queues}
 use Rattle.state.specs.mirror.Turns.{acts_at, LowPeer}
 use Rattle.blocks.proofs.Walk.{row_read}
 use Rattle.blocks.proofs.Mirrored.{arms_at}
@@ -20,7 +19,7 @@ use Rattle.blocks.proofs.Sound.{good_sized, row_holds_lem, send_peer, receive_pe
 use Rattle.state.proofs.Sound.{head_stands}
 
 acts_at_lem : (ts : List ℕ) (roles r : ℕ) (s : State) (row : PartRow)
-    → acts_at base ts (r * block_rows ts roles) (block_rows ts roles) (queues s.counts s.labels []) r row ≡ can_act base ts roles s r row
+    → acts_at base ts (r * block_rows ts roles) (block_rows ts roles) s r row ≡ can_act base ts roles s r row
 unfolding acts_at can_act
 acts_at_lem ts roles r s (End a b c) = refl
 acts_at_lem ts roles r s (Arm l c n) = refl
@@ -39,7 +38,7 @@ module _ (ts : List ℕ) (roles rows r start : ℕ) (s : State) {j : ℕ} {w : R
   head_read : part_row ts roles r (head_of s r) ≡ said w
   head_read = row_read ts (r * block_rows ts roles) at (read ∙ ap (λ (x : ℕ). words ts (x + j)) began)
 
-  pub acts_read : (t : Bool) → t ≡ acts_at base ts start rows (queues s.counts s.labels []) r (said w) → t ≡ is_awaited base ts roles s r
+  pub acts_read : (t : Bool) → t ≡ acts_at base ts start rows s r (said w) → t ≡ is_awaited base ts roles s r
   acts_read t e = e ∙ rw (began, rows_are, ← head_read) (acts_at_lem ts roles r s (part_row ts roles r (head_of s r)))
 
   -- over good tables and a good state the peer of a head is a role

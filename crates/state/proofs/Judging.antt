@@ -2,48 +2,65 @@
 use Prim.Native.Nat.{ℕ, ◌*◌, ◌<◌, ◌≤◌}
 use mathlib.Core.Bool.{Bool, true, false, cond, not}
 use mathlib.Core.List.{List}
-use mathlib.Core.Path.{◌≡◌, refl, sym, ◌∙◌, ap}
-use lib.Dec.{eqb}
+use mathlib.Core.Path.{◌≡◌, refl, sym, ◌∙◌}
 use native.Mathlib.Nat.{mul-le-mul}
 use native.Mathlib.Omega.{arith}
-use borrow.Author.Tests.{eqb-true, eqb-false}
-use Rattle.words.specs.Below.{set_of}
+use borrow.Author.Tests.{not-false}
+use Rattle.std.specs.Prelude.{Result, Ok, Err}
 use Rattle.table.specs.Limits.{base}
 use Rattle.blocks.specs.Block.{block_rows}
 use Rattle.blocks.specs.Tables.{tables_good}
-use Rattle.state.specs.State.{State, head_of, are_pair, state_good}
-use Rattle.state.specs.Awaited.{is_awaited}
-use Rattle.state.specs.declared.Turn.{Turn}
-use Rattle.state.specs.declared.Turn.TheVariants.{Refused}
-use Rattle.state.specs.declared.calls.Ground.{Ground}
-use Rattle.state.specs.declared.calls.Waiting.{Waiting}
-use Rattle.state.specs.mirror.Judged.{ground_of, judged, party_of, send_from, send_judged, receive_from, receive_judged, waiting_of}
+use Rattle.state.specs.State as lists
+use Rattle.state.specs.State.{head_of, are_pair, state_good}
+use Rattle.state.specs.declared.Refusal.{Refusal}
+use Rattle.state.specs.declared.Refusal.TheVariants.{Tables, State, Party}
+use Rattle.state.specs.mirror.Judged.{grounded, judged, ground_of, paired_of, send_from, send_judged, receive_from, receive_judged}
 use Rattle.blocks.proofs.Good.{sized_bounds}
 use Rattle.blocks.proofs.Sound.{good_sized}
 use Rattle.state.proofs.Sound.{pair_in}
 
+-- ---- a test that did not refuse
+
+pub ok≢err : {A B : Type 0} {a : A} {e : B} → ◌≡◌ {A = Result A B} (Err e) (Ok a) → ⊥
+ok≢err e = let z : ◌≡◌ {A = ℕ} 0 1 = cc in omega arith
+
+pub same_ok : {A B : Type 0} {a b : A} → ◌≡◌ {A = Result A B} (Ok a) (Ok b) → a ≡ b
+same_ok e = cc
+
+pub passes : {A : Type 0} (b : Bool) (x : Refusal) (rest : Result A Refusal) {a : A} → cond b (Err x) rest ≡ Ok a → (b ≡ false) × (rest ≡ Ok a)
+passes true x rest e = absurd (ok≢err e)
+passes false x rest e = (refl, e)
+
+-- a refusal by rules 12 to 14 is the same whatever comes behind them
+refused : {A B : Type 0} (t u v : Bool) (a : A) (rest : Result B Refusal) {e : Refusal}
+    → Err e ≡ cond t (Err Tables) (cond u (Err State) (cond v (Err Party) (Ok a))) → Err e ≡ cond t (Err Tables) (cond u (Err State) (cond v (Err Party) rest))
+refused true u v a rest f = cc
+refused false true v a rest f = cc
+refused false false true a rest f = cc
+refused false false false a rest f = absurd (ok≢err f)
+
 -- ---- rules 12 and 13
 
 -- what a call that rules 12 and 13 let pass stands on
-pub record Stood (ts : List ℕ) (roles rows : ℕ) (s : State) : Type 0 where
+pub record Stood (ts : List ℕ) (roles rows : ℕ) (s : lists.State) : Type 0 where
   pub tables_hold : tables_good base ts roles ≡ true
   pub state_holds : state_good base ts roles s ≡ true
   pub rows_are : rows ≡ block_rows ts roles
 
-module _ (ts : List ℕ) (roles : ℕ) (s : State) {g : Ground} (read : g ≡ ground_of base ts roles s) where
-  number_read : g.number ≡ cond (not (tables_good base ts roles)) 12 (cond (not (state_good base ts roles s)) 13 0)
-  unfolding ground_of
-  number_read = ap (λ (x : Ground). x.number) read
+module _ (ts : List ℕ) (roles : ℕ) (s : lists.State) where
+  pub grounded_ok : {A : Type 0} (rest : Result A Refusal) {a : A} → grounded base ts roles s rest ≡ Ok a → Stood ts roles (block_rows ts roles) s × (rest ≡ Ok a)
+  grounded_ok rest e =
+      let (a, e1) = passes (not (tables_good base ts roles)) Tables _ e in
+      let (b, e2) = passes (not (state_good base ts roles s)) State _ e1 in
+      (record { tables_hold = not-false _ a; state_holds = not-false _ b; rows_are = refl }, e2)
 
-  pub ground_stands : g.number ≡ 0 → Stood ts roles g.rows s
-  unfolding ground_of
-  ground_stands z = decide (tables_good base ts roles) (state_good base ts roles s) refl refl number_read (ap (λ (x : Ground). x.rows) read)
-    where
-      decide : (a b : Bool) → tables_good base ts roles ≡ a → state_good base ts roles s ≡ b → g.number ≡ cond (not a) 12 (cond (not b) 13 0)
-          → g.rows ≡ cond a (block_rows ts roles) 0 → Stood ts roles g.rows s
-      decide true true ea eb e r = record { tables_hold = ea; state_holds = eb; rows_are = r }
-      decide true false ea eb e r = absurd (let x : 13 ≡ 0 = sym e ∙ z in omega arith)
-      decide false b ea eb e r = absurd (let x : 12 ≡ 0 = sym e ∙ z in omega arith)
+  pub ground_stands : {rows : ℕ} → Ok rows ≡ ground_of base ts roles s → Stood ts roles rows s
+  ground_stands e =
+      let (st, same) = grounded_ok (Ok (block_rows ts roles)) (sym e) in
+      record { tables_hold = st.tables_hold; state_holds = st.state_holds; rows_are = sym (same_ok same) }
+
+  pub grounded_err : {A B : Type 0} (a : A) (rest : Result B Refusal) {e : Refusal} → Err e ≡ grounded base ts roles s (Ok a) → Err e ≡ grounded base ts roles s rest
+  grounded_err a rest f = refused (not (tables_good base ts roles)) (not (state_good base ts roles s)) false a rest f
 
 -- a role's block begins where the machine can count
 pub start_low : (r rows : ℕ) → r < 8 → rows ≤ 256 → r * rows ≤ 2048
@@ -51,7 +68,7 @@ start_low r rows l m =
     let low : r ≤ 8 = omega arith in
     omega (arith, mul-le-mul low m)
 
-module _ (ts : List ℕ) (roles rows : ℕ) (s : State) (st : Stood ts roles rows s) where
+module _ (ts : List ℕ) (roles rows : ℕ) (s : lists.State) (st : Stood ts roles rows s) where
   pub stood_bounds : (2 ≤ roles) × (roles ≤ 8) × (rows ≤ 256)
   stood_bounds =
       let b = sized_bounds ts roles (block_rows ts roles) (good_sized ts roles st.tables_hold) in
@@ -77,44 +94,19 @@ module _ (ts : List ℕ) (roles rows : ℕ) (s : State) (st : Stood ts roles row
 
 -- ---- rule 14
 
--- n is the number of the first of rules 12 to 14 that is broken
-module _ (ts : List ℕ) (roles : ℕ) (s : State) (p q : ℕ) {g : Ground} {n : ℕ} (read : g ≡ ground_of base ts roles s) (behind : n ≡ party_of g.number roles p q) where
-  party_read : n ≡ party_of (cond (not (tables_good base ts roles)) 12 (cond (not (state_good base ts roles s)) 13 0)) roles p q
-  party_read = behind ∙ ap (λ (m : ℕ). party_of m roles p q) (number_read ts roles s read)
+module _ (ts : List ℕ) (roles p q : ℕ) (s : lists.State) where
+  pub judged_ok : {A : Type 0} (rest : Result A Refusal) {a : A} → judged base ts roles p q s rest ≡ Ok a
+      → Stood ts roles (block_rows ts roles) s × (are_pair roles p q ≡ true) × (rest ≡ Ok a)
+  judged_ok rest e =
+      let (st, e1) = grounded_ok ts roles s _ e in
+      let (two, e2) = passes (not (are_pair roles p q)) Party rest e1 in
+      (st, not-false _ two, e2)
 
-  pub party_refuses : (rest : Turn) → (n ≡ 0 → ⊥) → Refused n ≡ judged base ts roles p q s rest
-  party_refuses rest h = decide (tables_good base ts roles) (state_good base ts roles s) (are_pair roles p q) party_read
-    where
-      decide : (a b d : Bool) → n ≡ cond (eqb (cond (not a) 12 (cond (not b) 13 0)) 0) (cond d 0 14) (cond (not a) 12 (cond (not b) 13 0))
-          → Refused n ≡ cond (not a) (Refused 12) (cond (not b) (Refused 13) (cond (not d) (Refused 14) rest))
-      decide true true true e = absurd (h e)
-      decide true true false e = ap Refused e
-      decide true false d e = ap Refused e
-      decide false b d e = ap Refused e
+  pub paired_stands : {rows : ℕ} → Ok rows ≡ paired_of base ts roles p q s → Stood ts roles rows s × (are_pair roles p q ≡ true)
+  paired_stands e =
+      let (st, two, same) = judged_ok (Ok (block_rows ts roles)) (sym e) in
+      (record { tables_hold = st.tables_hold; state_holds = st.state_holds; rows_are = sym (same_ok same) }, two)
 
-  pub party_stands : n ≡ 0 → Stood ts roles g.rows s × (are_pair roles p q ≡ true)
-  party_stands z = decide (eqb g.number 0) (are_pair roles p q) refl refl behind
-    where
-      decide : (b d : Bool) → eqb g.number 0 ≡ b → are_pair roles p q ≡ d → n ≡ cond b (cond d 0 14) g.number
-          → Stood ts roles g.rows s × (are_pair roles p q ≡ true)
-      decide true true eb ed e = (ground_stands ts roles s read (eqb-true g.number 0 eb), ed)
-      decide true false eb ed e = absurd (let x : 14 ≡ 0 = sym e ∙ z in omega arith)
-      decide false d eb ed e = absurd (eqb-false g.number 0 eb (sym e ∙ z))
-
--- ---- the awaited roles
-
-module _ (ts : List ℕ) (roles : ℕ) (s : State) where
-  pub waiting_refused : {g : Ground} → g ≡ ground_of base ts roles s → (g.number ≡ 0 → ⊥) → record { number = g.number; set = 0 } ≡ waiting_of base ts roles s
-  unfolding waiting_of
-  waiting_refused {g} read h = decide (tables_good base ts roles) (state_good base ts roles s) (number_read ts roles s read)
-    where
-      decide : (a b : Bool) → g.number ≡ cond (not a) 12 (cond (not b) 13 0)
-          → ◌≡◌ {A = Waiting} (record { number = g.number; set = 0 })
-          (cond (not a) (record { number = 12; set = 0 }) (cond (not b) (record { number = 13; set = 0 }) (record { number = 0; set = set_of (is_awaited base ts roles s) roles })))
-      decide true true e = absurd (h e)
-      decide true false e = rw e
-      decide false b e = rw e
-
-  pub waiting_accepted : {rows set : ℕ} → Stood ts roles rows s → set ≡ set_of (is_awaited base ts roles s) roles → record { number = 0; set = set } ≡ waiting_of base ts roles s
-  unfolding waiting_of
-  waiting_accepted st e = rw (st.tables_hold, st.state_holds, e)
+  pub judged_err : {A B : Type 0} (a : A) (rest : Result B Refusal) {e : Refusal} → Err e ≡ judged base ts roles p q s (Ok a) → Err e ≡ judged base ts roles p q s rest
+  judged_err a rest f =
+      refused (not (tables_good base ts roles)) (not (state_good base ts roles s)) (not (are_pair roles p q)) a rest f

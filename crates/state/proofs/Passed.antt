@@ -13,84 +13,15 @@ use Rattle.blocks.specs.Head.{find}
 use Rattle.blocks.specs.Tables.{tables_good, row_holds}
 use Rattle.blocks.specs.mirror.Rows.{follow_at, chain_at}
 use Rattle.state.specs.State.{State, head_of, held, label_at, are_pair, state_good}
-use Rattle.state.specs.declared.Turn.{Turn}
-use Rattle.state.specs.declared.Turn.TheVariants.{Refused, Offered, To}
+use Rattle.std.specs.Prelude.{Result, Ok, Err}
+use Rattle.state.specs.declared.Refusal.{Refusal}
+use Rattle.state.specs.declared.Refusal.TheVariants.{Turn, Full, Empty}
 use Rattle.state.specs.mirror.Turns.{send_turn, send_found, receive_turn, receive_found}
 use Rattle.state.specs.mirror.Judged.{judged, send_judged, receive_judged}
 use Rattle.blocks.proofs.Mirrored.{arms_at}
 use Rattle.blocks.proofs.Sound.{Reached, row_holds_lem, sent_found, received_found}
 use Rattle.state.proofs.Sound.{pair_in, head_stands}
-use Rattle.state.proofs.Judging.{Stood, stood_bounds}
-
--- a refusal's number is not 0
-pub data Numbered : Turn → Type 0 where
-  refused : {n : ℕ} → 0 < n → Numbered (Refused n)
-  offered : {n k : ℕ} → 0 < n → Numbered (Offered n k)
-  to : {h : ℕ} → Numbered (To h)
-
-number_cond : (b : Bool) (n : ℕ) (rest : Turn) → 0 < n → Numbered rest → Numbered (cond b (Refused n) rest)
-number_cond true n rest l r = refused l
-number_cond false n rest l r = r
-
-module _ (ts : List ℕ) (start rows : ℕ) where
-  number_sent : (count k : ℕ) (o : Option ℕ) → Numbered (send_found base ts start rows count k o)
-  unfolding send_found
-  number_sent count k none = offered {n = 16} (omega arith)
-  number_sent count k (some c) = number_cond (leb 4 count) 17 _ (omega arith) to
-
-  pub number_send : (q l count : ℕ) (row : PartRow) → Numbered (send_turn base ts start rows q l count row)
-  unfolding send_turn
-  number_send q l count (End a b c) = refused {n = 15} (omega arith)
-  number_send q l count (Arm k c n) = refused {n = 15} (omega arith)
-  number_send q l count (Loop b x y) = refused {n = 15} (omega arith)
-  number_send q l count (Back j x y) = refused {n = 15} (omega arith)
-  number_send q l count (Send peer f x) = number_cond (not (eqb peer q)) 15 _ (omega arith) (number_sent count _ _)
-  number_send q l count (Receive peer f x) = refused {n = 15} (omega arith)
-  number_send q l count Other = refused {n = 15} (omega arith)
-
-  number_received : (k : ℕ) (o : Option ℕ) → Numbered (receive_found ts start rows k o)
-  unfolding receive_found
-  number_received k none = offered {n = 19} (omega arith)
-  number_received k (some c) = to
-
-  pub number_receive : (p count l : ℕ) (row : PartRow) → Numbered (receive_turn base ts start rows p count l row)
-  unfolding receive_turn
-  number_receive p count l (End a b c) = refused {n = 15} (omega arith)
-  number_receive p count l (Arm k c n) = refused {n = 15} (omega arith)
-  number_receive p count l (Loop b x y) = refused {n = 15} (omega arith)
-  number_receive p count l (Back j x y) = refused {n = 15} (omega arith)
-  number_receive p count l (Send peer f x) = refused {n = 15} (omega arith)
-  number_receive p count l (Receive peer f x) =
-      number_cond (not (eqb peer p)) 15 _ (omega arith) (number_cond (eqb count 0) 18 _ (omega arith) (number_received _ _))
-  number_receive p count l Other = refused {n = 15} (omega arith)
-
-pub number_judged : (ts : List ℕ) (roles p q : ℕ) (s : State) (rest : Turn) → Numbered rest → Numbered (judged base ts roles p q s rest)
-number_judged ts roles p q s rest r =
-    number_cond (not (tables_good base ts roles)) 12 _ (omega arith)
-    (number_cond (not (state_good base ts roles s)) 13 _ (omega arith) (number_cond (not (are_pair roles p q)) 14 rest (omega arith) r))
-
--- ---- what is known where no test refused the call
-
-refused≢to : {n h : ℕ} → Refused n ≡ To h → ⊥
-refused≢to e = let z : ◌≡◌ {A = ℕ} 0 1 = cc in omega arith
-
-offered≢to : {n k h : ℕ} → Offered n k ≡ To h → ⊥
-offered≢to e = let z : ◌≡◌ {A = ℕ} 0 1 = cc in omega arith
-
-same_to : {h k : ℕ} → To h ≡ To k → h ≡ k
-same_to e = cc
-
-passes : (b : Bool) (n : ℕ) (rest : Turn) (h : ℕ) → cond b (Refused n) rest ≡ To h → (b ≡ false) × (rest ≡ To h)
-passes true n rest h e = absurd (refused≢to e)
-passes false n rest h e = (refl, e)
-
-pub judged_to : (ts : List ℕ) (roles p q : ℕ) (s : State) (rest : Turn) (h : ℕ) → judged base ts roles p q s rest ≡ To h
-    → Stood ts roles (block_rows ts roles) s × (are_pair roles p q ≡ true) × (rest ≡ To h)
-judged_to ts roles p q s rest h e =
-    let (a, e1) = passes (not (tables_good base ts roles)) 12 _ h e in
-    let (b, e2) = passes (not (state_good base ts roles s)) 13 _ h e1 in
-    let (c, e3) = passes (not (are_pair roles p q)) 14 rest h e2 in
-    (record { tables_hold = not-false _ a; state_holds = not-false _ b; rows_are = refl }, not-false _ c, e3)
+use Rattle.state.proofs.Judging.{Stood, stood_bounds, judged_ok, passes, same_ok, ok≢err}
 
 -- the head's row, the arm that was found, and where its continuation's head is
 pub record Sent (ts : List ℕ) (start rows q l count h : ℕ) (row : PartRow) : Type 0 where
@@ -112,45 +43,45 @@ pub record Received (ts : List ℕ) (start rows p count l h : ℕ) (row : PartRo
   pub lands : h ≡ follow_at rows ts start continuation
 
 module _ (ts : List ℕ) (start rows h : ℕ) where
-  found_sent : (q l count f x k : ℕ) (o : Option ℕ) → find l (chain_at rows ts start f) ≡ o → send_found base ts start rows count k o ≡ To h
+  found_sent : (q l count f x k : ℕ) (o : Option ℕ) → find l (chain_at rows ts start f) ≡ o → send_found base ts start rows count k o ≡ Ok h
       → Sent ts start rows q l count h (Send q f x)
   unfolding send_found
-  found_sent q l count f x k none g e = absurd (offered≢to e)
+  found_sent q l count f x k none g e = absurd (ok≢err e)
   found_sent q l count f x k (some c) g e =
-      let (a, b) = passes (leb 4 count) 17 (To (follow_at rows ts start c)) h e in
-      record { first = f; spare = x; continuation = c; is = refl; found = g; room = leb-false 4 count a; lands = sym (same_to b) }
+      let (a, b) = passes (leb 4 count) Full (Ok (follow_at rows ts start c)) e in
+      record { first = f; spare = x; continuation = c; is = refl; found = g; room = leb-false 4 count a; lands = sym (same_ok b) }
 
-  row_sent : (q l count : ℕ) (row : PartRow) → send_turn base ts start rows q l count row ≡ To h → Sent ts start rows q l count h row
+  row_sent : (q l count : ℕ) (row : PartRow) → send_turn base ts start rows q l count row ≡ Ok h → Sent ts start rows q l count h row
   unfolding send_turn
-  row_sent q l count (End a b c) e = absurd (refused≢to e)
-  row_sent q l count (Arm k c n) e = absurd (refused≢to e)
-  row_sent q l count (Loop b x y) e = absurd (refused≢to e)
-  row_sent q l count (Back j x y) e = absurd (refused≢to e)
+  row_sent q l count (End a b c) e = absurd (ok≢err e)
+  row_sent q l count (Arm k c n) e = absurd (ok≢err e)
+  row_sent q l count (Loop b x y) e = absurd (ok≢err e)
+  row_sent q l count (Back j x y) e = absurd (ok≢err e)
   row_sent q l count (Send peer f x) e =
-      let (a, b) = passes (not (eqb peer q)) 15 _ h e in
+      let (a, b) = passes (not (eqb peer q)) Turn _ e in
       rw (eqb-true peer q (not-false _ a)) (found_sent q l count f x _ (find l (chain_at rows ts start f)) refl b)
-  row_sent q l count (Receive peer f x) e = absurd (refused≢to e)
-  row_sent q l count Other e = absurd (refused≢to e)
+  row_sent q l count (Receive peer f x) e = absurd (ok≢err e)
+  row_sent q l count Other e = absurd (ok≢err e)
 
-  found_received : (p count l f x k : ℕ) (o : Option ℕ) → (count ≡ 0 → ⊥) → find l (chain_at rows ts start f) ≡ o → receive_found ts start rows k o ≡ To h
+  found_received : (p count l f x k : ℕ) (o : Option ℕ) → (count ≡ 0 → ⊥) → find l (chain_at rows ts start f) ≡ o → receive_found ts start rows k o ≡ Ok h
       → Received ts start rows p count l h (Receive p f x)
   unfolding receive_found
-  found_received p count l f x k none z g e = absurd (offered≢to e)
+  found_received p count l f x k none z g e = absurd (ok≢err e)
   found_received p count l f x k (some c) z g e =
-      record { first = f; spare = x; continuation = c; is = refl; found = g; some_held = omega (arith, z); lands = sym (same_to e) }
+      record { first = f; spare = x; continuation = c; is = refl; found = g; some_held = omega (arith, z); lands = sym (same_ok e) }
 
-  row_received : (p count l : ℕ) (row : PartRow) → receive_turn base ts start rows p count l row ≡ To h → Received ts start rows p count l h row
+  row_received : (p count l : ℕ) (row : PartRow) → receive_turn base ts start rows p count l row ≡ Ok h → Received ts start rows p count l h row
   unfolding receive_turn
-  row_received p count l (End a b c) e = absurd (refused≢to e)
-  row_received p count l (Arm k c n) e = absurd (refused≢to e)
-  row_received p count l (Loop b x y) e = absurd (refused≢to e)
-  row_received p count l (Back j x y) e = absurd (refused≢to e)
-  row_received p count l (Send peer f x) e = absurd (refused≢to e)
+  row_received p count l (End a b c) e = absurd (ok≢err e)
+  row_received p count l (Arm k c n) e = absurd (ok≢err e)
+  row_received p count l (Loop b x y) e = absurd (ok≢err e)
+  row_received p count l (Back j x y) e = absurd (ok≢err e)
+  row_received p count l (Send peer f x) e = absurd (ok≢err e)
   row_received p count l (Receive peer f x) e =
-      let (a, b) = passes (not (eqb peer p)) 15 _ h e in
-      let (z, d) = passes (eqb count 0) 18 _ h b in
+      let (a, b) = passes (not (eqb peer p)) Turn _ e in
+      let (z, d) = passes (eqb count 0) Empty _ b in
       rw (eqb-true peer p (not-false _ a)) (found_received p count l f x _ (find l (chain_at rows ts start f)) (eqb-false count 0 z) refl d)
-  row_received p count l Other e = absurd (refused≢to e)
+  row_received p count l Other e = absurd (ok≢err e)
 
 -- an accepted send: the tables and the state are good, the two are a pair, and the arm is there
 pub record SendTo (ts : List ℕ) (roles p q l h : ℕ) (s : State) : Type 0 where
@@ -170,10 +101,10 @@ pub record ReceiveTo (ts : List ℕ) (roles p q h : ℕ) (s : State) : Type 0 wh
   pub q_low : q < 8
 
 module _ (ts : List ℕ) (roles p q : ℕ) (s : State) (h : ℕ) where
-  pub send_to : (l : ℕ) → send_judged base ts roles p q l s ≡ To h → SendTo ts roles p q l h s
+  pub send_to : (l : ℕ) → send_judged base ts roles p q l s ≡ Ok h → SendTo ts roles p q l h s
   unfolding send_judged
   send_to l e =
-      let (st, two, rest) = judged_to ts roles p q s _ h e in
+      let (st, two, rest) = judged_ok ts roles p q s _ e in
       let t = row_sent ts (p * block_rows ts roles) (block_rows ts roles) h q l (held base s p q) (part_row ts roles p (head_of s p)) rest in
       let (ip, iq, ne) = pair_in roles p q two in
       let b = stood_bounds ts roles (block_rows ts roles) s st in
@@ -190,10 +121,10 @@ module _ (ts : List ℕ) (roles p q : ℕ) (s : State) (h : ℕ) where
         q_low = omega (arith, b.1);
       }
 
-  pub receive_to : receive_judged base ts roles p q s ≡ To h → ReceiveTo ts roles p q h s
+  pub receive_to : receive_judged base ts roles p q s ≡ Ok h → ReceiveTo ts roles p q h s
   unfolding receive_judged
   receive_to e =
-      let (st, two, rest) = judged_to ts roles p q s _ h e in
+      let (st, two, rest) = judged_ok ts roles p q s _ e in
       let t = row_received ts (q * block_rows ts roles) (block_rows ts roles) h p (held base s p q) (label_at base s p q 0) (part_row ts roles q (head_of s q)) rest in
       let (ip, iq, ne) = pair_in roles p q two in
       let b = stood_bounds ts roles (block_rows ts roles) s st in

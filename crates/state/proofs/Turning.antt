@@ -10,7 +10,8 @@ use Rattle.blocks.specs.Block.{part_row_of}
 use Rattle.blocks.specs.declared.rows.Found.TheVariants.{At, Nothing}
 use Rattle.blocks.specs.mirror.Rows.{found_of}
 use Rattle.state.specs.State.{State}
-use Rattle.state.specs.declared.Turn.TheVariants.{Refused}
+use Rattle.std.specs.Prelude.{Err}
+use Rattle.state.specs.declared.Refusal.TheVariants.{Turn}
 use Rattle.state.specs.mirror.Turns.{send_turn, receive_turn, acts_at}
 
 -- k is the lowest label of the arms
@@ -24,7 +25,7 @@ found_at (some d) k c e = cc
 
 -- a head that is no send, no receive, or neither
 module _ (lim : Limits) (ts : List ℕ) (start rows : ℕ) (a b c : ℕ) where
-  pub no_send : (q l count k : ℕ) → (k ≡ 5 → ⊥) → Refused 15 ≡ send_turn lim ts start rows q l count (part_row_of k a b c)
+  pub no_send : (q l count k : ℕ) → (k ≡ 5 → ⊥) → Err Turn ≡ send_turn lim ts start rows q l count (part_row_of k a b c)
   unfolding send_turn
   no_send q l count zero h = refl
   no_send q l count (suc zero) h = refl
@@ -35,7 +36,7 @@ module _ (lim : Limits) (ts : List ℕ) (start rows : ℕ) (a b c : ℕ) where
   no_send q l count (suc (suc (suc (suc (suc (suc zero)))))) h = refl
   no_send q l count (suc (suc (suc (suc (suc (suc (suc k))))))) h = refl
 
-  pub no_receive : (p count l k : ℕ) → (k ≡ 6 → ⊥) → Refused 15 ≡ receive_turn lim ts start rows p count l (part_row_of k a b c)
+  pub no_receive : (p count l k : ℕ) → (k ≡ 6 → ⊥) → Err Turn ≡ receive_turn lim ts start rows p count l (part_row_of k a b c)
   unfolding receive_turn
   no_receive p count l zero h = refl
   no_receive p count l (suc zero) h = refl

@@ -1,4 +1,5 @@
 pub mod mirror
 pub mod Numbers
+pub mod Refusals
 pub mod State
 pub mod Awaited

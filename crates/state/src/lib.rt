@@ -1,44 +1,72 @@
 // A state's arrays: rule 13, and the tests of the calls.
 #![tactic(auto)]
 
-pub mod calls;
+mod calls;
 mod formed;
 mod turns;
 
-ghost use Rattle.std.specs.Prelude.{◌≡◌, ◌<◌};
+ghost use Rattle.std.specs.Prelude.{◌≡◌};
+ghost use Rattle.state.specs.Refusals.{number_of, offered_of};
 
-// A call is refused with a number, or for its label with a number and the lowest label that the head offers, or the role that made it moves to
-// that row.
+use slots::{Counts, Heads, Labels, Payloads};
+
+// A state that is lent, since it is large: each role's head row, and for each ordered pair of roles (sender x roles + receiver) how many
+// messages its queue holds and the slots of their labels and payloads.
 #[derive(Clone, Copy)]
-pub enum Turn {
-    Refused(u8),
-    Offered(u8, u16),
-    To(u16),
+pub struct State<'a> {
+    pub heads: &'a Heads,
+    pub counts: &'a Counts,
+    pub labels: &'a Labels,
+    pub payloads: &'a Payloads,
 }
 
-impl Turn {
-    pub const ACCEPTED: u8 = 0;
-
-    pub const TABLES: u8 = 12;
-
-    pub const STATE: u8 = 13;
-
-    pub const PARTY: u8 = 14;
-
-    pub const TURN: u8 = 15;
-
-    pub const LABEL: u8 = 16;
-
-    pub const FULL: u8 = 17;
-
-    pub const EMPTY: u8 = 18;
-
-    pub const STRAY: u8 = 19;
+// Why a call is refused: the first rule that is broken.
+#[derive(Clone, Copy, Debug, PartialEq, Eq)]
+pub enum Refusal {
+    // The tables are not well formed.
+    Tables,
+    // The state is not well formed.
+    State,
+    // The two roles have no queue.
+    Party,
+    // The caller's head is no such action.
+    Turn,
+    // The head sends no such label: the lowest that it sends.
+    Label(u16),
+    // The queue is full.
+    Full,
+    // The queue is empty.
+    Empty,
+    // The head receives no such label: the lowest that it receives.
+    Stray(u16),
 }
 
-// A count or a label as a number of any size.
-pub fn wide(x: u8) -> usize
-    ensures { (result ≡ x) × (result < 256) }
-{
-    x as usize
+impl Refusal {
+    // The lowest label that the head offers, where the call is refused for its label.
+    pub fn offered(self) -> Option<u16>
+        ensures { result ≡ offered_of self }
+    {
+        match self {
+            Refusal::Label(least) | Refusal::Stray(least) => Some(least),
+            _ => None,
+        }
+    }
+}
+
+// The customer's number of a refusal.
+impl From<Refusal> for u8 {
+    ghost from_gives = { λ refusal number. number ≡ number_of refusal };
+
+    fn from(refusal: Refusal) -> u8 {
+        match refusal {
+            Refusal::Tables => 12,
+            Refusal::State => 13,
+            Refusal::Party => 14,
+            Refusal::Turn => 15,
+            Refusal::Label(_) => 16,
+            Refusal::Full => 17,
+            Refusal::Empty => 18,
+            Refusal::Stray(_) => 19,
+        }
+    }
 }
