@@ -1,5 +1,5 @@
 -- When a send or a receive is accepted, and that the awaited roles are exactly those with such a call. Assumes nothing.
-use Prim.Native.Nat.{ℕ, zero, suc, ◌*◌, ◌<◌}
+use Prim.Native.Nat.{ℕ, zero, suc, ◌<◌}
 use mathlib.Core.Bool.{true, ◌&&◌, true≢false}
 use mathlib.Core.List.{List}
 use mathlib.Core.Option.{Option, none, some}
@@ -13,54 +13,44 @@ use Rattle.blocks.specs.Head.{find, chain, arm_then, arms_of}
 use Rattle.blocks.specs.Tables.{tables_good, row_holds, to_arm, is_peer}
 use Rattle.state.specs.State.{are_pair}
 use Rattle.state.specs.Awaited.{is_found, can_act}
-use Rattle.state.specs.declared.Turn.{Turn}
-use Rattle.state.specs.declared.Turn.TheVariants.{To}
+use Rattle.std.specs.Prelude.{Result, Ok, Err}
+use Rattle.state.specs.declared.Refusal.{Refusal}
 use Rattle.state.specs.mirror.Judged.{send_judged, receive_judged}
 use Rattle.session.specs.State.{listed, head_of, held, label_at, state_good}
 use Rattle.session.specs.Calls.{send_arm, send_at, send_of, receive_arm, receive_at, receive_of}
 use Rattle.session.specs.Awaited.{is_awaited, role_set, awaited_of}
 use Rattle.session.specs.declared.Session.{Session}
-use Rattle.session.specs.declared.Answer.{Answer}
+use Rattle.session.specs.Answers.{Answer}
 use Rattle.blocks.proofs.Good.{both, sized_bounds}
 use Rattle.blocks.proofs.Mirrored.{arms_at}
 use Rattle.blocks.proofs.Sound.{good_sized, row_holds_lem, send_peer, receive_peer}
 use Rattle.state.proofs.Sound.{head_stands}
-use Rattle.state.proofs.Passed.{Numbered, refused, offered, to, number_send, number_receive, number_judged, SendTo, send_to, ReceiveTo, receive_to}
-use Rattle.session.proofs.Calling.{after_send, after_send_lem, after_receive, after_receive_lem}
+use Rattle.state.proofs.Passed.{SendTo, send_to, ReceiveTo, receive_to}
+use Rattle.session.proofs.Calling.{after_send, after_send_lem, after_receive, after_receive_lem, refused_number}
 
 -- ---- accepted means that no test refused
 
 module _ (ts : List ℕ) (roles p q : ℕ) (s : Session) where
   -- a send that was accepted: where its sender went, and all that was tested
   pub send_accepted : (l v : ℕ) → (send_of base ts roles p q l v s).number ≡ 0
-      → (h : ℕ) × SendTo ts roles p q l h (listed s) × (send_of base ts roles p q l v s ≡ after_send ts roles p q s l v (To h))
-  unfolding send_judged
-  send_accepted l v e =
-      which (send_judged base ts roles p q l (listed s)) refl
-      (number_judged ts roles p q (listed s) _ (number_send ts (p * block_rows ts roles) (block_rows ts roles) q l (held base s p q) (part_row ts roles p (head_of s p))))
+      → (h : ℕ) × SendTo ts roles p q l h (listed s) × (send_of base ts roles p q l v s ≡ after_send ts roles p q s l v (Ok h))
+  send_accepted l v e = which (send_judged base ts roles p q l (listed s)) refl
     where
-      which : (t : Turn) → send_judged base ts roles p q l (listed s) ≡ t → Numbered t
-          → (h : ℕ) × SendTo ts roles p q l h (listed s) × (send_of base ts roles p q l v s ≡ after_send ts roles p q s l v (To h))
-      which t f (refused {n = n} m) =
-          absurd (let z : n ≡ 0 = ap (λ (a : Answer). a.number) (ap (after_send ts roles p q s l v) (sym f) ∙ after_send_lem ts roles p q s l v) ∙ e in omega arith)
-      which t f (offered {n = n} m) =
-          absurd (let z : n ≡ 0 = ap (λ (a : Answer). a.number) (ap (after_send ts roles p q s l v) (sym f) ∙ after_send_lem ts roles p q s l v) ∙ e in omega arith)
-      which t f (to {h = h}) = (h, send_to ts roles p q (listed s) h l f, sym (after_send_lem ts roles p q s l v) ∙ ap (after_send ts roles p q s l v) f)
+      which : (t : Result ℕ Refusal) → send_judged base ts roles p q l (listed s) ≡ t
+          → (h : ℕ) × SendTo ts roles p q l h (listed s) × (send_of base ts roles p q l v s ≡ after_send ts roles p q s l v (Ok h))
+      which (Err r) f =
+          absurd (refused_number s r (ap (λ (a : Answer). a.number) (ap (after_send ts roles p q s l v) (sym f) ∙ after_send_lem ts roles p q s l v) ∙ e))
+      which (Ok h) f = (h, send_to ts roles p q (listed s) h l f, sym (after_send_lem ts roles p q s l v) ∙ ap (after_send ts roles p q s l v) f)
 
   pub receive_accepted : (receive_of base ts roles p q s).number ≡ 0
-      → (h : ℕ) × ReceiveTo ts roles p q h (listed s) × (receive_of base ts roles p q s ≡ after_receive ts roles p q s (To h))
-  unfolding receive_judged
-  receive_accepted e =
-      which (receive_judged base ts roles p q (listed s)) refl
-      (number_judged ts roles p q (listed s) _ (number_receive ts (q * block_rows ts roles) (block_rows ts roles) p (held base s p q) (label_at base s p q 0) (part_row ts roles q (head_of s q))))
+      → (h : ℕ) × ReceiveTo ts roles p q h (listed s) × (receive_of base ts roles p q s ≡ after_receive ts roles p q s (Ok h))
+  receive_accepted e = which (receive_judged base ts roles p q (listed s)) refl
     where
-      which : (t : Turn) → receive_judged base ts roles p q (listed s) ≡ t → Numbered t
-          → (h : ℕ) × ReceiveTo ts roles p q h (listed s) × (receive_of base ts roles p q s ≡ after_receive ts roles p q s (To h))
-      which t f (refused {n = n} m) =
-          absurd (let z : n ≡ 0 = ap (λ (a : Answer). a.number) (ap (after_receive ts roles p q s) (sym f) ∙ after_receive_lem ts roles p q s) ∙ e in omega arith)
-      which t f (offered {n = n} m) =
-          absurd (let z : n ≡ 0 = ap (λ (a : Answer). a.number) (ap (after_receive ts roles p q s) (sym f) ∙ after_receive_lem ts roles p q s) ∙ e in omega arith)
-      which t f (to {h = h}) = (h, receive_to ts roles p q (listed s) h f, sym (after_receive_lem ts roles p q s) ∙ ap (after_receive ts roles p q s) f)
+      which : (t : Result ℕ Refusal) → receive_judged base ts roles p q (listed s) ≡ t
+          → (h : ℕ) × ReceiveTo ts roles p q h (listed s) × (receive_of base ts roles p q s ≡ after_receive ts roles p q s (Ok h))
+      which (Err r) f =
+          absurd (refused_number s r (ap (λ (a : Answer). a.number) (ap (after_receive ts roles p q s) (sym f) ∙ after_receive_lem ts roles p q s) ∙ e))
+      which (Ok h) f = (h, receive_to ts roles p q (listed s) h f, sym (after_receive_lem ts roles p q s) ∙ ap (after_receive ts roles p q s) f)
 
 -- ---- awaited
 

@@ -14,7 +14,7 @@ use Rattle.session.specs.State.{head_of, held, label_at, nothing, state_good}
 use Rattle.session.specs.Calls.{refused_if, judged, fresh_of, send_arm, send_at, send_of, receive_arm, receive_at, receive_of}
 use Rattle.session.specs.Before.{AnswerBefore, without, refused_if_before, judged_before, send_arm_before, send_at_before, receive_arm_before, receive_at_before, AnswersStay}
 use Rattle.session.specs.declared.Session.{Session}
-use Rattle.session.specs.declared.Answer.{Answer}
+use Rattle.session.specs.Answers.{Answer}
 
 -- a test stays, where the rest does
 same_refused_if : (lim : Limits) (n : ℕ) (b : Bool) (s : Session) (rest : Answer) (before : AnswerBefore) → without rest ≡ before

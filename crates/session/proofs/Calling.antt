@@ -5,38 +5,46 @@ use mathlib.Core.List.{List}
 use mathlib.Core.Option.{Option, none, some}
 use mathlib.Core.Path.{◌≡◌, refl, ◌∙◌, ap}
 use lib.Dec.{eqb, leb}
-use Rattle.table.specs.Limits.{base}
+use native.Mathlib.Omega.{arith}
 use Rattle.blocks.specs.Block.{PartRow, End, Arm, Loop, Back, Send, Receive, Other, part_row, block_rows}
 use Rattle.blocks.specs.Head.{find, lowest_label}
 use Rattle.blocks.specs.Tables.{tables_good}
 use Rattle.blocks.specs.mirror.Rows.{follow_at, chain_at}
 use Rattle.state.specs.State.{are_pair}
-use Rattle.state.specs.declared.Turn.{Turn}
-use Rattle.state.specs.declared.Turn.TheVariants.{Refused, Offered, To}
+use Rattle.std.specs.Prelude.{Result, Ok, Err}
+use Rattle.table.specs.Limits.{base}
+use Rattle.state.specs.declared.Refusal.{Refusal}
+use Rattle.state.specs.declared.Refusal.TheVariants.{Tables, State, Party, Turn, Label, Full, Empty, Stray}
+use Rattle.state.specs.Refusals.{number_of, offered_of}
 use Rattle.state.specs.mirror.Turns.{send_turn, send_found, receive_turn, receive_found}
 use Rattle.state.specs.mirror.Judged.{send_judged, receive_judged}
 use Rattle.session.specs.State.{listed, head_of, held, label_at, state_good, moved, pushed}
+use Rattle.session.specs.Results.{label_or_none}
 use Rattle.session.specs.Calls.{offering, answers, received, refused_if, send_arm, send_at, send_of, receive_arm, receive_at, receive_of}
 use Rattle.session.specs.declared.Session.{Session}
-use Rattle.session.specs.declared.Answer.{Answer}
+use Rattle.session.specs.Answers.{Answer}
 use Rattle.blocks.proofs.Mirrored.{arms_at, head_at}
 
-module _ (ts : List ℕ) (roles p q : ℕ) (s : Session) where
-  abbrev pub after_send : ℕ → ℕ → Turn → Answer
-  after_send l v (Refused n) = answers base n s
-  after_send l v (Offered n k) = offering n k s
-  after_send l v (To h) = answers base 0 (moved (pushed base s p q l v) p h)
+-- a refused call hands back the state
+abbrev pub refused : Session → Refusal → Answer
+refused s e = offering (number_of e) (label_or_none base (offered_of e)) s
 
-  send_refused : (l v n : ℕ) (b : Bool) (rest : Turn) → after_send l v (cond b (Refused n) rest) ≡ refused_if base n b s (after_send l v rest)
-  send_refused l v n true rest = refl
-  send_refused l v n false rest = refl
+module _ (ts : List ℕ) (roles p q : ℕ) (s : Session) where
+  abbrev pub after_send : ℕ → ℕ → Result ℕ Refusal → Answer
+  after_send l v (Err e) = refused s e
+  after_send l v (Ok h) = answers base 0 (moved (pushed base s p q l v) p h)
+
+  send_refused : (l v : ℕ) (e : Refusal) (n : ℕ) (b : Bool) (rest : Result ℕ Refusal) → refused s e ≡ answers base n s
+      → after_send l v (cond b (Err e) rest) ≡ refused_if base n b s (after_send l v rest)
+  send_refused l v e n true rest h = h
+  send_refused l v e n false rest h = refl
 
   send_arm_lem : (l v k : ℕ) (o : Option ℕ)
       → after_send l v (send_found base ts (p * block_rows ts roles) (block_rows ts roles) (held base s p q) k o) ≡ send_arm base ts roles p q l v s k o
   unfolding send_found send_arm
   send_arm_lem l v k none = refl
   send_arm_lem l v k (some c) =
-      send_refused l v 17 (leb 4 (held base s p q)) (To (follow_at (block_rows ts roles) ts (p * block_rows ts roles) c)) ∙ rw (head_at ts roles p c)
+      send_refused l v Full 17 (leb 4 (held base s p q)) (Ok (follow_at (block_rows ts roles) ts (p * block_rows ts roles) c)) refl ∙ rw (head_at ts roles p c)
 
   send_row : (l v : ℕ) (row : PartRow)
       → after_send l v (send_turn base ts (p * block_rows ts roles) (block_rows ts roles) q l (held base s p q) row) ≡ send_at base ts roles p q l v s row
@@ -48,7 +56,7 @@ module _ (ts : List ℕ) (roles p q : ℕ) (s : Session) where
   send_row l v (Send peer f x) =
       let arms = chain_at (block_rows ts roles) ts (p * block_rows ts roles) f in
       rw (arms_at ts roles p f)
-      (send_refused l v 15 (not (eqb peer q)) _ ∙ ap (refused_if base 15 (not (eqb peer q)) s) (send_arm_lem l v (lowest_label 64 arms) (find l arms)))
+      (send_refused l v Turn 15 (not (eqb peer q)) _ refl ∙ ap (refused_if base 15 (not (eqb peer q)) s) (send_arm_lem l v (lowest_label 64 arms) (find l arms)))
   send_row l v (Receive peer f x) = refl
   send_row l v Other = refl
 
@@ -56,21 +64,21 @@ module _ (ts : List ℕ) (roles p q : ℕ) (s : Session) where
   unfolding send_judged send_of
   after_send_lem l v =
       let rest = send_turn base ts (p * block_rows ts roles) (block_rows ts roles) q l (held base s p q) (part_row ts roles p (head_of s p)) in
-      send_refused l v 12 (not (tables_good base ts roles)) _
+      send_refused l v Tables 12 (not (tables_good base ts roles)) _ refl
       ∙ ap (refused_if base 12 (not (tables_good base ts roles)) s)
-      (send_refused l v 13 (not (state_good base ts roles s)) _
+      (send_refused l v State 13 (not (state_good base ts roles s)) _ refl
       ∙ ap (refused_if base 13 (not (state_good base ts roles s)) s)
-      (send_refused l v 14 (not (are_pair roles p q)) rest
+      (send_refused l v Party 14 (not (are_pair roles p q)) rest refl
       ∙ ap (refused_if base 14 (not (are_pair roles p q)) s) (send_row l v (part_row ts roles p (head_of s p)))))
 
-  abbrev pub after_receive : Turn → Answer
-  after_receive (Refused n) = answers base n s
-  after_receive (Offered n k) = offering n k s
-  after_receive (To h) = received base s p q h
+  abbrev pub after_receive : Result ℕ Refusal → Answer
+  after_receive (Err e) = refused s e
+  after_receive (Ok h) = received base s p q h
 
-  receive_refused : (n : ℕ) (b : Bool) (rest : Turn) → after_receive (cond b (Refused n) rest) ≡ refused_if base n b s (after_receive rest)
-  receive_refused n true rest = refl
-  receive_refused n false rest = refl
+  receive_refused : (e : Refusal) (n : ℕ) (b : Bool) (rest : Result ℕ Refusal) → refused s e ≡ answers base n s
+      → after_receive (cond b (Err e) rest) ≡ refused_if base n b s (after_receive rest)
+  receive_refused e n true rest h = h
+  receive_refused e n false rest h = refl
 
   receive_arm_lem : (k : ℕ) (o : Option ℕ)
       → after_receive (receive_found ts (q * block_rows ts roles) (block_rows ts roles) k o) ≡ receive_arm base ts roles p q s k o
@@ -89,18 +97,29 @@ module _ (ts : List ℕ) (roles p q : ℕ) (s : Session) where
   receive_row (Receive peer f x) =
       let arms = chain_at (block_rows ts roles) ts (q * block_rows ts roles) f in
       rw (arms_at ts roles q f)
-      (receive_refused 15 (not (eqb peer p)) _
+      (receive_refused Turn 15 (not (eqb peer p)) _ refl
       ∙ ap (refused_if base 15 (not (eqb peer p)) s)
-      (receive_refused 18 (eqb (held base s p q) 0) _ ∙ ap (refused_if base 18 (eqb (held base s p q) 0) s) (receive_arm_lem (lowest_label 64 arms) (find (label_at base s p q 0) arms))))
+      (receive_refused Empty 18 (eqb (held base s p q) 0) _ refl ∙ ap (refused_if base 18 (eqb (held base s p q) 0) s) (receive_arm_lem (lowest_label 64 arms) (find (label_at base s p q 0) arms))))
   receive_row Other = refl
 
   pub after_receive_lem : after_receive (receive_judged base ts roles p q (listed s)) ≡ receive_of base ts roles p q s
   unfolding receive_judged receive_of
   after_receive_lem =
       let rest = receive_turn base ts (q * block_rows ts roles) (block_rows ts roles) p (held base s p q) (label_at base s p q 0) (part_row ts roles q (head_of s q)) in
-      receive_refused 12 (not (tables_good base ts roles)) _
+      receive_refused Tables 12 (not (tables_good base ts roles)) _ refl
       ∙ ap (refused_if base 12 (not (tables_good base ts roles)) s)
-      (receive_refused 13 (not (state_good base ts roles s)) _
+      (receive_refused State 13 (not (state_good base ts roles s)) _ refl
       ∙ ap (refused_if base 13 (not (state_good base ts roles s)) s)
-      (receive_refused 14 (not (are_pair roles p q)) rest
+      (receive_refused Party 14 (not (are_pair roles p q)) rest refl
       ∙ ap (refused_if base 14 (not (are_pair roles p q)) s) (receive_row (part_row ts roles q (head_of s q)))))
+
+-- a refusal's number is not 0
+pub refused_number : (s : Session) (e : Refusal) → (refused s e).number ≡ 0 → ⊥
+refused_number s Tables z = omega arith
+refused_number s State z = omega arith
+refused_number s Party z = omega arith
+refused_number s Turn z = omega arith
+refused_number s (Label k) z = omega arith
+refused_number s Full z = omega arith
+refused_number s Empty z = omega arith
+refused_number s (Stray k) z = omega arith

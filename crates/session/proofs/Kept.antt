@@ -17,8 +17,8 @@ use Rattle.blocks.specs.Block.{part_row, block_rows, is_head, PartRow, End, Arm,
 use Rattle.blocks.specs.Head.{head}
 use Rattle.blocks.specs.Tables.{tables_good, row_holds}
 use Rattle.state.specs.State.{are_pair, head_good, slot_good, queue_good}
-use Rattle.state.specs.declared.Turn.{Turn}
-use Rattle.state.specs.declared.Turn.TheVariants.{Refused, Offered, To}
+use Rattle.std.specs.Prelude.{Result, Ok, Err}
+use Rattle.state.specs.declared.Refusal.{Refusal}
 use Rattle.state.specs.mirror.Judged.{send_judged, receive_judged}
 use Rattle.session.specs.State.{listed, held, label_at, payload_at, nothing, state_good, moved, pushed, taken, forward}
 use Rattle.session.specs.declared.Session.{Session}
@@ -27,10 +27,9 @@ use Rattle.blocks.proofs.Mirrored.{head_at}
 use Rattle.blocks.proofs.Good.{both, sized_bounds}
 use Rattle.blocks.proofs.Sound.{good_sized, row_holds_lem, row_headed, head_in}
 use Rattle.state.proofs.Sound.{pair_in, queue_good_lem, head_good_lem, state_from}
-use Rattle.slots.proofs.Forward.{four_sets}
 use Rattle.session.proofs.Accepted.{send_accepted, receive_accepted}
 use Rattle.session.proofs.First.{length_first}
-use Rattle.session.proofs.Queues.{four_forward}
+use Rattle.session.proofs.Queues.{four_forward, four_sets}
 use Rattle.session.proofs.Calling.{after_send, after_send_lem, after_receive, after_receive_lem}
 
 -- the lengths that the state's type gives its arrays
@@ -362,10 +361,9 @@ fresh_keeps ts roles e = decide (tables_good base ts roles) refl e
 -- ---- the lengths stay
 
 module _ (ts : List ℕ) (roles p q : ℕ) (s : Session) (shaped : Shaped s) where
-  shaped_send : (l v : ℕ) (t : Turn) → Shaped (after_send ts roles p q s l v t).state
-  shaped_send l v (Refused n) = shaped
-  shaped_send l v (Offered n k) = shaped
-  shaped_send l v (To h) = record {
+  shaped_send : (l v : ℕ) (t : Result ℕ Refusal) → Shaped (after_send ts roles p q s l v t).state
+  shaped_send l v (Err e) = shaped
+  shaped_send l v (Ok h) = record {
     heads_are = simp length-set shaped.heads_are;
     counts_are = simp length-set shaped.counts_are;
     labels_are = simp length-set shaped.labels_are;
@@ -375,10 +373,9 @@ module _ (ts : List ℕ) (roles p q : ℕ) (s : Session) (shaped : Shaped s) whe
   pub send_shaped : (l v : ℕ) → Shaped (send_of base ts roles p q l v s).state
   send_shaped l v = rw (← (after_send_lem ts roles p q s l v)) (shaped_send l v (send_judged base ts roles p q l (listed s)))
 
-  shaped_receive : (t : Turn) → Shaped (after_receive ts roles p q s t).state
-  shaped_receive (Refused n) = shaped
-  shaped_receive (Offered n k) = shaped
-  shaped_receive (To h) = record {
+  shaped_receive : (t : Result ℕ Refusal) → Shaped (after_receive ts roles p q s t).state
+  shaped_receive (Err e) = shaped
+  shaped_receive (Ok h) = record {
     heads_are = simp length-set shaped.heads_are;
     counts_are = simp length-set shaped.counts_are;
     labels_are = simp length-sets shaped.labels_are;

@@ -1,6 +1,6 @@
 pub mod Queues
 pub mod First
-pub mod Answers
+pub mod Fresh
 pub mod Calling
 pub mod Promises
 pub mod Accepted
@@ -8,3 +8,4 @@ pub mod Kept
 pub mod Refused
 pub mod Before
 pub mod Offered
+pub mod Results

@@ -17,7 +17,7 @@ use Rattle.session.specs.State.{listed, head_of, held, label_at, state_good}
 use Rattle.session.specs.Calls.{offering, answers, refused_if, judged, fresh_of, send_arm, send_at, send_of, receive_arm, receive_at, receive_of}
 use Rattle.session.specs.Offered.{Least, WouldBeSent, WouldBeReceived, SaysWhatIsTaken}
 use Rattle.session.specs.declared.Session.{Session}
-use Rattle.session.specs.declared.Answer.{Answer}
+use Rattle.session.specs.Answers.{Answer}
 use Rattle.blocks.proofs.Good.{both, sized_bounds}
 use Rattle.blocks.proofs.Lowest.{lowest_least, lowest_found}
 use Rattle.blocks.proofs.Sound.{Reached, good_sized, row_holds_lem, to_arm_in, chain_found}

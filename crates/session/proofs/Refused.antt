@@ -15,8 +15,7 @@ use Rattle.session.specs.Calls.{answers, refused_if, judged, fresh_of, send_arm,
 use Rattle.session.specs.Awaited.{awaited_of}
 use Rattle.session.specs.Refused.{HandsBack, NamesNobody, RefusedKeeps}
 use Rattle.session.specs.declared.Session.{Session}
-use Rattle.session.specs.declared.Answer.{Answer}
-use Rattle.session.specs.declared.Awaiting.{Awaiting}
+use Rattle.session.specs.Answers.{Answer, Awaiting}
 
 -- an answer without a message
 back : (lim : Limits) (n : ℕ) (s : Session) → HandsBack lim s (answers lim n s)

@@ -9,7 +9,7 @@ use Rattle.state.specs.State as lists
 use Rattle.state.specs.Awaited as acting
 use Rattle.session.specs.State.{listed, state_good}
 use Rattle.session.specs.declared.Session.{Session}
-use Rattle.session.specs.declared.Awaiting.{Awaiting}
+use Rattle.session.specs.Answers.{Awaiting}
 
 -- role r has a call that would be accepted
 abbrev pub is_awaited : Limits → List ℕ → ℕ → Session → ℕ → Bool

@@ -12,7 +12,7 @@ use Rattle.state.specs.State.{are_pair}
 use Rattle.session.specs.State.{head_of, held, label_at, payload_at, nothing, state_good, moved, pushed, taken}
 use Rattle.session.specs.Calls.{first_heads, fresh_of, send_of, receive_of}
 use Rattle.session.specs.declared.Session.{Session}
-use Rattle.session.specs.declared.Answer.{Answer}
+use Rattle.session.specs.Answers.{Answer}
 
 pub record AnswerBefore : Type 0 where
   pub number : ℕ

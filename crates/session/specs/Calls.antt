@@ -11,7 +11,7 @@ use Rattle.state.specs.State as lists
 use Rattle.state.specs.State.{are_pair}
 use Rattle.session.specs.State.{head_of, held, label_at, payload_at, nothing, state_good, moved, pushed, taken}
 use Rattle.session.specs.declared.Session.{Session}
-use Rattle.session.specs.declared.Answer.{Answer}
+use Rattle.session.specs.Answers.{Answer}
 
 -- a number, the lowest label that the head offers, and a state; no message. A refused call hands back the state that it was given
 abbrev pub offering : ℕ → ℕ → Session → Answer

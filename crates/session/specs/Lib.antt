@@ -1,5 +1,7 @@
 pub mod mirror
 pub mod State
+pub mod Answers
+pub mod Results
 pub mod Calls
 pub mod Awaited
 pub mod Promises

@@ -4,8 +4,7 @@ use Rattle.table.specs.Limits.{Limits}
 use Rattle.session.specs.Calls.{fresh_of, send_of, receive_of}
 use Rattle.session.specs.Awaited.{awaited_of}
 use Rattle.session.specs.declared.Session.{Session}
-use Rattle.session.specs.declared.Answer.{Answer}
-use Rattle.session.specs.declared.Awaiting.{Awaiting}
+use Rattle.session.specs.Answers.{Answer, Awaiting}
 
 abbrev pub Freshens : Limits → List ℕ → ℕ → Answer → Type 0
 Freshens lim ts roles a = a ≡ fresh_of lim ts roles

@@ -8,8 +8,7 @@ use Rattle.session.specs.State.{nothing}
 use Rattle.session.specs.Calls.{fresh_of, send_of, receive_of}
 use Rattle.session.specs.Awaited.{awaited_of}
 use Rattle.session.specs.declared.Session.{Session}
-use Rattle.session.specs.declared.Answer.{Answer}
-use Rattle.session.specs.declared.Awaiting.{Awaiting}
+use Rattle.session.specs.Answers.{Answer, Awaiting}
 
 -- refused, a call hands back s, and label and payload 0; but with 16 and 19 it offers nothing, for which the limit's labels stand
 abbrev pub HandsBack : Limits → Session → Answer → Type 0

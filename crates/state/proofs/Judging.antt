@@ -27,6 +27,9 @@ ok≢err e = let z : ◌≡◌ {A = ℕ} 0 1 = cc in omega arith
 pub same_ok : {A B : Type 0} {a b : A} → ◌≡◌ {A = Result A B} (Ok a) (Ok b) → a ≡ b
 same_ok e = cc
 
+pub same_err : {A B : Type 0} {a b : B} → ◌≡◌ {A = Result A B} (Err a) (Err b) → a ≡ b
+same_err e = cc
+
 pub passes : {A : Type 0} (b : Bool) (x : Refusal) (rest : Result A Refusal) {a : A} → cond b (Err x) rest ≡ Ok a → (b ≡ false) × (rest ≡ Ok a)
 passes true x rest e = absurd (ok≢err e)
 passes false x rest e = (refl, e)

@@ -1,7 +1,10 @@
 -- `Session::awaited` meets its promise. Assumes nothing.
-use Rattle.session.proofs.Answers.{awaited_read}
+use Rattle.std.proofs.Common.{◌∙◌}
+use Rattle.session.proofs.Fresh.{set_told, none_told}
 use Rattle.session.proofs.Session.awaited.Goals as goal
 
-pub returns : goal.returns
-returns c =
-    awaited_read c.args.tables.now c.args.roles c.args.self c.awaited_roles-waiting.ensures
+pub returns-in-Err : goal.returns-in-Err
+returns-in-Err c = none_told c.args.tables.now c.args.roles c.args.self (c.in-Err.ensures ∙ rw c.view.ensures)
+
+pub returns-in-Ok : goal.returns-in-Ok
+returns-in-Ok c = set_told c.args.tables.now c.args.roles c.args.self (c.in-Ok.ensures ∙ rw c.view.ensures)
