@@ -15,8 +15,7 @@ use Rattle.session.specs.Calls.{answers}
 use Rattle.session.specs.State.{nothing}
 use Rattle.session.specs.Awaited.{awaited_of}
 use Rattle.session.specs.declared.Session.{Session}
-use Rattle.session.specs.declared.Answer.{Answer}
-use Rattle.session.specs.declared.Awaiting.{Awaiting}
+use Rattle.session.specs.Answers.{Answer, Awaiting}
 use Rattle.lent.specs.Slices.{is_state, lent, replaced, given_of}
 use Rattle.lent.specs.declared.Given.{Given}
 use Rattle.embed.specs.Lent.{wrong_number, lent_call, awaited_lent, Handed, Told}

@@ -8,8 +8,7 @@ use Rattle.session.specs.Calls.{answers}
 use Rattle.session.specs.Awaited.{nobody_awaited}
 use Rattle.session.specs.Refused.{HandsBack, NamesNobody}
 use Rattle.session.specs.declared.Session.{Session}
-use Rattle.session.specs.declared.Answer.{Answer}
-use Rattle.session.specs.declared.Awaiting.{Awaiting}
+use Rattle.session.specs.Answers.{Answer, Awaiting}
 use Rattle.session.proofs.Refused.{refused_keeps}
 use Rattle.lent.specs.Slices.{is_state, lent}
 use Rattle.embed.specs.Leaves.{RefusedLeaves}

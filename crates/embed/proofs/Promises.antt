@@ -8,8 +8,7 @@ use Rattle.table.specs.Check.{says}
 use Rattle.table.specs.declared.Verdict.{Verdict}
 use Rattle.opening.specs.Opening.{Opens}
 use Rattle.opening.proofs.Promises.{one_open, one_room}
-use Rattle.session.specs.declared.Answer.{Answer}
-use Rattle.session.specs.declared.Awaiting.{Awaiting}
+use Rattle.session.specs.Answers.{Answer, Awaiting}
 use Rattle.embed.specs.Lent.{Handed, Answered, Delivered, Told}
 
 -- gaugetwinkle_open

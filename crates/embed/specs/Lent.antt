@@ -6,8 +6,7 @@ use Rattle.state.specs.Numbers.{TABLES, STATE}
 use Rattle.session.specs.Calls.{answers, fresh_of, send_of, receive_of}
 use Rattle.session.specs.Awaited.{awaited_of, nobody_awaited}
 use Rattle.session.specs.declared.Session.{Session}
-use Rattle.session.specs.declared.Answer.{Answer}
-use Rattle.session.specs.declared.Awaiting.{Awaiting}
+use Rattle.session.specs.Answers.{Answer, Awaiting}
 use Rattle.lent.specs.Slices.{is_state, lent}
 
 -- slices of other lengths are no well-formed state: 13, behind 12

@@ -18,7 +18,7 @@ use Rattle.session.specs.State.{state_good}
 use Rattle.session.specs.Awaited.{is_awaited, awaited_of}
 use Rattle.session.specs.Promises.{Awaits}
 use Rattle.session.specs.declared.Session.{Session}
-use Rattle.session.specs.declared.Awaiting.{Awaiting}
+use Rattle.session.specs.Answers.{Awaiting}
 use Rattle.session.proofs.Accepted.{HasCall, awaited_acts, acts_awaited}
 use Rattle.hours.specs.declared.Record.{Record}
 use Rattle.hours.specs.Records.{at, spans, covers, roles_in, is_alone, is_nobody, alone}

@@ -5,7 +5,7 @@ use Rattle.table.specs.Limits.{Limits}
 use Rattle.session.specs.Awaited.{is_awaited}
 use Rattle.session.specs.Promises.{Awaits}
 use Rattle.session.specs.declared.Session.{Session}
-use Rattle.session.specs.declared.Awaiting.{Awaiting}
+use Rattle.session.specs.Answers.{Awaiting}
 use Rattle.hours.specs.Records.{is_alone, is_several, is_nobody}
 use Rattle.hours.specs.declared.Record.{Record}
 

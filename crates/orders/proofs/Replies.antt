@@ -13,8 +13,7 @@ use Rattle.blocks.specs.Tables.{tables_good}
 use Rattle.session.specs.Calls.{fresh_of, send_of, receive_of}
 use Rattle.session.specs.declared.Session.{Session}
 use Rattle.session.specs.Awaited.{awaited_of}
-use Rattle.session.specs.declared.Answer.{Answer}
-use Rattle.session.specs.declared.Awaiting.{Awaiting}
+use Rattle.session.specs.Answers.{Answer, Awaiting}
 use Rattle.session.proofs.First.{length_first}
 use Rattle.orders.specs.Orders.{Kept, Reply, number, malformed, state_of, is_state, freshened, handed, sent, received, sending, receiving, is_call, call_order}
 use Rattle.orders.specs.Lines.{keeps}

@@ -8,8 +8,7 @@ use Rattle.session.specs.State.{nothing}
 use Rattle.session.specs.Calls.{fresh_of, send_of, receive_of}
 use Rattle.session.specs.Awaited.{awaited_of}
 use Rattle.session.specs.declared.Session.{Session}
-use Rattle.session.specs.declared.Answer.{Answer}
-use Rattle.session.specs.declared.Awaiting.{Awaiting}
+use Rattle.session.specs.Answers.{Answer, Awaiting}
 use Rattle.lines.specs.Over.{all_below}
 
 -- what is kept from line to line

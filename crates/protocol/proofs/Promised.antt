@@ -21,7 +21,7 @@ use Rattle.parts.specs.Projection.{part_of, present}
 use Rattle.opening.specs.Opening.{open_of, blocks, room_of}
 use Rattle.session.specs.Calls.{answers, fresh_of, send_of, receive_of}
 use Rattle.session.specs.Awaited.{awaited_of}
-use Rattle.session.specs.declared.Answer.{Answer}
+use Rattle.session.specs.Answers.{Answer}
 use Rattle.session.specs.declared.Session.{Session}
 use Rattle.protocol.specs.Each.{Each}
 use Rattle.protocol.specs.Engine.{Call, sends, receives, Engine, answer_to, reply, role_set, ours}

@@ -25,7 +25,7 @@ use Rattle.opening.specs.Opening.{open_of, room_of}
 use Rattle.blocks.specs.Head.{chain, find}
 use Rattle.state.specs.Numbers.{TURN, LABEL, FULL, EMPTY}
 use Rattle.session.specs.Calls.{fresh_of, send_of}
-use Rattle.session.specs.declared.Answer.{Answer}
+use Rattle.session.specs.Answers.{Answer}
 use Rattle.session.specs.declared.Session.{Session}
 use Rattle.protocol.specs.Each.{Each, each_nil, each_cons}
 use Rattle.protocol.specs.Engine.{Call, sends, receives, caller, Reply, Engine, answer_to, ours}

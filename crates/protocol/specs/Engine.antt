@@ -5,8 +5,7 @@ use Rattle.blocks.specs.Block.{End, part_row}
 use Rattle.session.specs.State.{head_of, held}
 use Rattle.session.specs.Calls.{fresh_of, send_of, receive_of}
 use Rattle.session.specs.Awaited.{awaited_of}
-use Rattle.session.specs.declared.Answer.{Answer}
-use Rattle.session.specs.declared.Awaiting.{Awaiting}
+use Rattle.session.specs.Answers.{Answer, Awaiting}
 use Rattle.session.specs.declared.Session.{Session}
 
 pub data Call : Type 0 where

@@ -7,8 +7,7 @@ use Rattle.table.specs.declared.Verdict.{Verdict}
 use Rattle.opening.specs.Opening.{Opens}
 use Rattle.state.specs.Numbers.{STRAY}
 use Rattle.session.specs.Promises.{Freshens, Sends, Receives, Awaits}
-use Rattle.session.specs.declared.Answer.{Answer}
-use Rattle.session.specs.declared.Awaiting.{Awaiting}
+use Rattle.session.specs.Answers.{Answer, Awaiting}
 use Rattle.session.specs.declared.Session.{Session}
 use Rattle.protocol.specs.Each.{Each}
 use Rattle.protocol.specs.Engine.{Call, sends, receives, Engine, over}

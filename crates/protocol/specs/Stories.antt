@@ -12,7 +12,7 @@ use Rattle.session.specs.State.{head_of}
 use Rattle.session.specs.Calls.{fresh_of, send_of, receive_of}
 use Rattle.session.specs.Awaited.{awaited_of}
 use Rattle.session.specs.declared.Session.{Session}
-use Rattle.session.specs.declared.Answer.{Answer}
+use Rattle.session.specs.Answers.{Answer}
 
 -- what role 0 says and role 1 hears over T5's tables
 pub data Turn : Type 0 where

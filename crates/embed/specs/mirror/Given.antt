@@ -3,7 +3,7 @@ use Rattle.std.specs.Prelude.{ℕ, cond, List}
 use Rattle.table.specs.Limits.{Limits}
 use Rattle.session.specs.Calls.{answers}
 use Rattle.session.specs.declared.Session.{Session}
-use Rattle.session.specs.declared.Answer.{Answer}
+use Rattle.session.specs.Answers.{Answer}
 use Rattle.lent.specs.declared.Given.{Given}
 use Rattle.embed.specs.Lent.{wrong_number}
 

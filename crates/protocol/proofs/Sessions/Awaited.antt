@@ -17,7 +17,7 @@ use Rattle.blocks.specs.Tables.{row_holds}
 use Rattle.state.specs.Awaited.{is_found, can_act}
 use Rattle.session.specs.State.{listed, head_of, held, label_at, payload_at}
 use Rattle.session.specs.Awaited.{is_awaited}
-use Rattle.session.specs.declared.Answer.{Answer}
+use Rattle.session.specs.Answers.{Answer}
 use Rattle.session.specs.declared.Session.{Session}
 use Rattle.session.proofs.Accepted.{is_found_lem, arm_first, found_first}
 use Rattle.protocol.specs.Steps.{send, receive}

@@ -18,7 +18,7 @@ use Rattle.state.specs.Numbers.{TABLES, STATE, PARTY, TURN, LABEL, FULL, EMPTY, 
 use Rattle.state.specs.State.{are_pair}
 use Rattle.session.specs.State.{head_of, held, label_at, payload_at, moved, pushed}
 use Rattle.session.specs.Calls.{offering, answers, received, refused_if, send_arm, send_at, send_of, receive_arm, receive_at, receive_of}
-use Rattle.session.specs.declared.Answer.{Answer}
+use Rattle.session.specs.Answers.{Answer}
 use Rattle.session.specs.declared.Session.{Session}
 use Rattle.protocol.specs.Steps.{send, receive}
 use Rattle.protocol.proofs.Parts.Arms.{none≢some}

@@ -20,7 +20,7 @@ use Rattle.blocks.specs.Block.{block_rows}
 use Rattle.blocks.specs.Head.{head}
 use Rattle.state.specs.State.{slot}
 use Rattle.session.specs.State.{held, forward, moved, pushed, taken, nothing}
-use Rattle.session.specs.declared.Answer.{Answer}
+use Rattle.session.specs.Answers.{Answer}
 use Rattle.session.specs.declared.Session.{Session}
 use Rattle.protocol.specs.Each.{Each, each_nil, each_cons}
 use Rattle.protocol.specs.Engine.{Call, sends, receives, answer_to}

@@ -26,7 +26,7 @@ use Rattle.state.specs.Awaited.{can_act}
 use Rattle.session.specs.State.{head_of, held, label_at, payload_at}
 use Rattle.session.specs.Awaited.{is_awaited, awaited_of}
 use Rattle.session.specs.Offered.{Least}
-use Rattle.session.specs.declared.Answer.{Answer}
+use Rattle.session.specs.Answers.{Answer}
 use Rattle.session.specs.declared.Session.{Session}
 use Rattle.session.proofs.Accepted.{is_found_lem}
 use Rattle.session.proofs.Offered.{least_arm}

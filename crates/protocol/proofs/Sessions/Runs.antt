@@ -16,7 +16,7 @@ use Rattle.blocks.specs.Tables.{row_good, tables_good}
 use Rattle.state.specs.Numbers.{LABEL}
 use Rattle.session.specs.State.{held, label_at, payload_at, moved, taken}
 use Rattle.session.specs.Calls.{send_of, receive_of}
-use Rattle.session.specs.declared.Answer.{Answer}
+use Rattle.session.specs.Answers.{Answer}
 use Rattle.session.specs.declared.Session.{Session}
 use Rattle.blocks.proofs.Sound.{Reached}
 use Rattle.protocol.specs.Steps.{send, receive, Step}
