@@ -22,7 +22,6 @@ use Rattle.session.specs.Awaited.{is_awaited, role_set, awaited_of}
 use Rattle.session.specs.declared.Session.{Session}
 use Rattle.session.specs.Answers.{Answer}
 use Rattle.blocks.proofs.Good.{both, sized_bounds}
-use Rattle.blocks.proofs.Mirrored.{arms_at}
 use Rattle.blocks.proofs.Sound.{good_sized, row_holds_lem, send_peer, receive_peer}
 use Rattle.state.proofs.Sound.{head_stands}
 use Rattle.state.proofs.Passed.{SendTo, send_to, ReceiveTo, receive_to}
@@ -135,7 +134,7 @@ acts_awaited ts roles s r (sends q l v e) =
     rw (t.sent.is, lt-ltb (held base s r q) 4 t.sent.room)
 acts_awaited ts roles s r (receives p e) =
     let (h, t, is) = receive_accepted ts roles p r s e in
-    rw (t.received.is, lt-ltb 0 (held base s p r) t.received.some_held, arms_at ts roles r t.received.first, t.received.found)
+    rw (t.received.is, lt-ltb 0 (held base s p r) t.received.some_held, t.received.found)
 
 -- over good tables and a good state the answer is the set of the awaited roles, how many they are, and the least of them, or 8
 pub awaited_is : (ts : List ℕ) (roles : ℕ) (s : Session) → tables_good base ts roles ≡ true → state_good base ts roles s ≡ true

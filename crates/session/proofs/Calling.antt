@@ -1,15 +1,14 @@
 -- A call is its tests, and then its change of the state. Assumes nothing.
-use Prim.Native.Nat.{ℕ, ◌*◌}
+use Prim.Native.Nat.{ℕ}
 use mathlib.Core.Bool.{Bool, true, false, cond, not}
 use mathlib.Core.List.{List}
 use mathlib.Core.Option.{Option, none, some}
 use mathlib.Core.Path.{◌≡◌, refl, ◌∙◌, ap}
 use lib.Dec.{eqb, leb}
 use native.Mathlib.Omega.{arith}
-use Rattle.blocks.specs.Block.{PartRow, End, Arm, Loop, Back, Send, Receive, Other, part_row, block_rows}
-use Rattle.blocks.specs.Head.{find, lowest_label}
+use Rattle.blocks.specs.Block.{PartRow, End, Arm, Loop, Back, Send, Receive, Other, part_row}
+use Rattle.blocks.specs.Head.{head, arms_of, find, lowest_label}
 use Rattle.blocks.specs.Tables.{tables_good}
-use Rattle.blocks.specs.mirror.Rows.{follow_at, chain_at}
 use Rattle.state.specs.State.{are_pair}
 use Rattle.std.specs.Prelude.{Result, Ok, Err}
 use Rattle.table.specs.Limits.{base}
@@ -23,7 +22,6 @@ use Rattle.session.specs.Results.{label_or_none}
 use Rattle.session.specs.Calls.{offering, answers, received, refused_if, send_arm, send_at, send_of, receive_arm, receive_at, receive_of}
 use Rattle.session.specs.declared.Session.{Session}
 use Rattle.session.specs.Answers.{Answer}
-use Rattle.blocks.proofs.Mirrored.{arms_at, head_at}
 
 -- a refused call hands back the state
 abbrev pub refused : Session → Refusal → Answer
@@ -40,22 +38,21 @@ module _ (ts : List ℕ) (roles p q : ℕ) (s : Session) where
   send_refused l v e n false rest h = refl
 
   send_arm_lem : (l v k : ℕ) (o : Option ℕ)
-      → after_send l v (send_found base ts (p * block_rows ts roles) (block_rows ts roles) (held base s p q) k o) ≡ send_arm base ts roles p q l v s k o
+      → after_send l v (send_found base ts roles p (held base s p q) k o) ≡ send_arm base ts roles p q l v s k o
   unfolding send_found send_arm
   send_arm_lem l v k none = refl
   send_arm_lem l v k (some c) =
-      send_refused l v Full 17 (leb 4 (held base s p q)) (Ok (follow_at (block_rows ts roles) ts (p * block_rows ts roles) c)) refl ∙ rw (head_at ts roles p c)
+      send_refused l v Full 17 (leb 4 (held base s p q)) (Ok (head ts roles p c)) refl
 
   send_row : (l v : ℕ) (row : PartRow)
-      → after_send l v (send_turn base ts (p * block_rows ts roles) (block_rows ts roles) q l (held base s p q) row) ≡ send_at base ts roles p q l v s row
+      → after_send l v (send_turn base ts roles p q l (held base s p q) row) ≡ send_at base ts roles p q l v s row
   unfolding send_turn send_at
   send_row l v (End a b c) = refl
   send_row l v (Arm k c n) = refl
   send_row l v (Loop b x y) = refl
   send_row l v (Back j x y) = refl
   send_row l v (Send peer f x) =
-      let arms = chain_at (block_rows ts roles) ts (p * block_rows ts roles) f in
-      rw (arms_at ts roles p f)
+      let arms = arms_of ts roles p f in
       (send_refused l v Turn 15 (not (eqb peer q)) _ refl ∙ ap (refused_if base 15 (not (eqb peer q)) s) (send_arm_lem l v (lowest_label 64 arms) (find l arms)))
   send_row l v (Receive peer f x) = refl
   send_row l v Other = refl
@@ -63,7 +60,7 @@ module _ (ts : List ℕ) (roles p q : ℕ) (s : Session) where
   pub after_send_lem : (l v : ℕ) → after_send l v (send_judged base ts roles p q l (listed s)) ≡ send_of base ts roles p q l v s
   unfolding send_judged send_of
   after_send_lem l v =
-      let rest = send_turn base ts (p * block_rows ts roles) (block_rows ts roles) q l (held base s p q) (part_row ts roles p (head_of s p)) in
+      let rest = send_turn base ts roles p q l (held base s p q) (part_row ts roles p (head_of s p)) in
       send_refused l v Tables 12 (not (tables_good base ts roles)) _ refl
       ∙ ap (refused_if base 12 (not (tables_good base ts roles)) s)
       (send_refused l v State 13 (not (state_good base ts roles s)) _ refl
@@ -81,13 +78,13 @@ module _ (ts : List ℕ) (roles p q : ℕ) (s : Session) where
   receive_refused e n false rest h = refl
 
   receive_arm_lem : (k : ℕ) (o : Option ℕ)
-      → after_receive (receive_found ts (q * block_rows ts roles) (block_rows ts roles) k o) ≡ receive_arm base ts roles p q s k o
+      → after_receive (receive_found ts roles q k o) ≡ receive_arm base ts roles p q s k o
   unfolding receive_found receive_arm
   receive_arm_lem k none = refl
-  receive_arm_lem k (some c) = rw (head_at ts roles q c)
+  receive_arm_lem k (some c) = refl
 
   receive_row : (row : PartRow)
-      → after_receive (receive_turn base ts (q * block_rows ts roles) (block_rows ts roles) p (held base s p q) (label_at base s p q 0) row) ≡ receive_at base ts roles p q s row
+      → after_receive (receive_turn base ts roles p q (held base s p q) (label_at base s p q 0) row) ≡ receive_at base ts roles p q s row
   unfolding receive_turn receive_at
   receive_row (End a b c) = refl
   receive_row (Arm k c n) = refl
@@ -95,8 +92,7 @@ module _ (ts : List ℕ) (roles p q : ℕ) (s : Session) where
   receive_row (Back j x y) = refl
   receive_row (Send peer f x) = refl
   receive_row (Receive peer f x) =
-      let arms = chain_at (block_rows ts roles) ts (q * block_rows ts roles) f in
-      rw (arms_at ts roles q f)
+      let arms = arms_of ts roles q f in
       (receive_refused Turn 15 (not (eqb peer p)) _ refl
       ∙ ap (refused_if base 15 (not (eqb peer p)) s)
       (receive_refused Empty 18 (eqb (held base s p q) 0) _ refl ∙ ap (refused_if base 18 (eqb (held base s p q) 0) s) (receive_arm_lem (lowest_label 64 arms) (find (label_at base s p q 0) arms))))
@@ -105,7 +101,7 @@ module _ (ts : List ℕ) (roles p q : ℕ) (s : Session) where
   pub after_receive_lem : after_receive (receive_judged base ts roles p q (listed s)) ≡ receive_of base ts roles p q s
   unfolding receive_judged receive_of
   after_receive_lem =
-      let rest = receive_turn base ts (q * block_rows ts roles) (block_rows ts roles) p (held base s p q) (label_at base s p q 0) (part_row ts roles q (head_of s q)) in
+      let rest = receive_turn base ts roles p q (held base s p q) (label_at base s p q 0) (part_row ts roles q (head_of s q)) in
       receive_refused Tables 12 (not (tables_good base ts roles)) _ refl
       ∙ ap (refused_if base 12 (not (tables_good base ts roles)) s)
       (receive_refused State 13 (not (state_good base ts roles s)) _ refl

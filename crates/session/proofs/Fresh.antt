@@ -1,60 +1,40 @@
 -- The answers of fresh and awaited, where they are refused and where not. Assumes nothing.
-use Prim.Native.Nat.{ℕ, ◌≤◌}
+use Prim.Native.Nat.{ℕ}
 use mathlib.Core.Bool.{Bool, true, false, cond, not}
 use mathlib.Core.List.{List}
-use mathlib.Core.Path.{◌≡◌, refl, sym, ◌∙◌}
-use native.Mathlib.Omega.{arith}
-use lib.ListN.{replicate}
+use mathlib.Core.Path.{◌≡◌, refl, sym}
 use lib.Count.{ones, count_trailing_zeros}
-use Rattle.std.specs.Prelude.{Result, Ok, Err, ⊤}
+use Rattle.std.specs.Prelude.{Ok, Err}
 use Rattle.words.specs.Below.{set_of}
 use Rattle.table.specs.Limits.{base}
 use Rattle.blocks.specs.Block.{block_rows}
 use Rattle.blocks.specs.Tables.{tables_good}
-use Rattle.blocks.specs.mirror.Tables.{good_rows}
 use Rattle.state.specs.declared.Refusal.{Refusal}
 use Rattle.state.specs.declared.Refusal.TheVariants.{Tables, State}
 use Rattle.state.specs.mirror.Judged.{waiting_of}
 use Rattle.session.specs.State.{listed, state_good, nothing}
 use Rattle.session.specs.declared.Session.{Session}
-use Rattle.session.specs.Answers.{Answer}
 use Rattle.session.specs.Results.{answered, told}
-use Rattle.session.specs.Calls.{fresh_of}
+use Rattle.session.specs.Calls.{first_heads, fresh_of}
 use Rattle.session.specs.Awaited.{is_awaited, role_set, nobody_awaited, awaited_of}
-use Rattle.session.specs.mirror.Heads.{heads_from}
-use Rattle.session.proofs.First.{from_good, from_none}
 use Rattle.blocks.proofs.Good.{sized_bounds}
-use Rattle.blocks.proofs.Sound.{good_sized, bad_tables, good_tables}
+use Rattle.blocks.proofs.Sound.{good_sized}
 use Rattle.state.proofs.Sets.{set_count, set_least}
 use Rattle.state.proofs.Judging.{grounded_ok, ok≢err, same_ok, same_err}
 
--- how many rows were found: the blocks' where the tables are good, else none
-module _ (ts : List ℕ) (roles rows : ℕ) (found : rows ≡ good_rows base ts roles) where
-  pub rows_low : rows ≤ 256
-  rows_low = decide (tables_good base ts roles) refl found
-    where
-      decide : (t : Bool) → tables_good base ts roles ≡ t → rows ≡ cond t (block_rows ts roles) 0 → rows ≤ 256
-      decide true good e = let b = sized_bounds ts roles (block_rows ts roles) (good_sized ts roles good) in omega (arith, b.3, e)
-      decide false good e = omega arith
+-- a fresh session
+module _ (ts : List ℕ) (roles : ℕ) where
+  pub fresh_refused : tables_good base ts roles ≡ false → answered base (record { result = Err Tables; state = nothing base }) ≡ fresh_of base ts roles
+  unfolding fresh_of
+  fresh_refused bad = rw bad
 
-  module _ {hs : List ℕ} (heads : hs ≡ heads_from ts roles rows 8) where
-    abbrev made : Result ⊤ Refusal → Answer
-    made r = answered base (record {
-      result = r;
-      state = record { heads = hs; counts = (nothing base).counts; labels = (nothing base).labels; payloads = (nothing base).payloads };
-    })
-
-    pub fresh_refused : rows ≡ 0 → made (Err Tables) ≡ fresh_of base ts roles
-    unfolding fresh_of
-    fresh_refused z =
-        let none : hs ≡ replicate 8 0 = heads ∙ rw z (from_none ts roles 8) in
-        rw (bad_tables ts roles (sym z ∙ found), none)
-
-    pub fresh_accepted : (rows ≡ 0 → ⊥) → made (Ok tt) ≡ fresh_of base ts roles
-    unfolding fresh_of
-    fresh_accepted h =
-        let g = good_tables ts roles rows found h in
-        rw (g.0, heads ∙ from_good ts roles rows 8 g.1)
+  pub fresh_accepted : {hs : List ℕ} → tables_good base ts roles ≡ true → hs ≡ first_heads ts roles 8
+      → answered base (record {
+        result = Ok tt;
+        state = record { heads = hs; counts = (nothing base).counts; labels = (nothing base).labels; payloads = (nothing base).payloads };
+      }) ≡ fresh_of base ts roles
+  unfolding fresh_of
+  fresh_accepted good heads = rw (good, heads)
 
 -- what was found of the awaited roles, as it is told
 module _ (ts : List ℕ) (roles : ℕ) (s : Session) where

@@ -23,7 +23,6 @@ use Rattle.state.specs.mirror.Judged.{send_judged, receive_judged}
 use Rattle.session.specs.State.{listed, held, label_at, payload_at, nothing, state_good, moved, pushed, taken, forward}
 use Rattle.session.specs.declared.Session.{Session}
 use Rattle.session.specs.Calls.{answers, refused_if, first_heads, fresh_of, send_of, receive_of}
-use Rattle.blocks.proofs.Mirrored.{head_at}
 use Rattle.blocks.proofs.Good.{both, sized_bounds}
 use Rattle.blocks.proofs.Sound.{good_sized, row_holds_lem, row_headed, head_in}
 use Rattle.state.proofs.Sound.{pair_in, queue_good_lem, head_good_lem, state_from}
@@ -270,7 +269,7 @@ module _ (ts : List ℕ) (roles p q : ℕ) (s : Session) (shaped : Shaped s) whe
       let good = t.stood.state_holds in
       let (ip, iq, ne) = pair_in roles p q t.two in
       let holds = row_holds_lem ts roles t.stood.tables_hold p ip in
-      let lands : h ≡ head ts roles p t.sent.continuation = t.sent.lands ∙ sym (head_at ts roles p t.sent.continuation) in
+      let lands : h ≡ head ts roles p t.sent.continuation = t.sent.lands in
       let inside : h < block_rows ts roles = rw lands (head_in base ts roles p holds t.sent.continuation t.reached.inside) in
       let stands : is_head (part_row ts roles p h) ≡ true = rw lands (row_headed ts roles t.stood.tables_hold p ip t.sent.continuation t.reached.inside t.reached.no_arm) in
       rw is
@@ -291,7 +290,7 @@ module _ (ts : List ℕ) (roles p q : ℕ) (s : Session) (shaped : Shaped s) whe
       let good = t.stood.state_holds in
       let (ip, iq, ne) = pair_in roles p q t.two in
       let holds = row_holds_lem ts roles t.stood.tables_hold q iq in
-      let lands : h ≡ head ts roles q t.received.continuation = t.received.lands ∙ sym (head_at ts roles q t.received.continuation) in
+      let lands : h ≡ head ts roles q t.received.continuation = t.received.lands in
       let inside : h < block_rows ts roles = rw lands (head_in base ts roles q holds t.received.continuation t.reached.inside) in
       let stands : is_head (part_row ts roles q h) ≡ true = rw lands (row_headed ts roles t.stood.tables_hold q iq t.received.continuation t.reached.inside t.reached.no_arm) in
       rw is

@@ -1,25 +1,20 @@
 // Where the roles of a fresh session stand.
-ghost use Rattle.std.specs.Prelude.{◌≡◌, ◌≤◌};
+ghost use Rattle.std.specs.Prelude.{◌≡◌};
 ghost use Rattle.table.specs.Limits.{base};
-ghost use Rattle.session.specs.mirror.Heads.{heads_from};
+ghost use Rattle.session.specs.Calls.{first_heads};
 
 use crate::Session;
-use blocks::rows;
+use blocks::tables::Blocks;
 
-// Each role at the head of row 0 of its block of that many rows, absent roles at 0.
-pub fn first_heads(tables: &[u16], roles: usize, rows: usize) -> [u16; Session::ROLES]
-    requires { rows ≤ base.rows }
-    ensures { result ≡ heads_from tables.now roles rows base.roles }
+// Each role at the head of row 0 of its block, absent roles at 0.
+pub fn first_heads(blocks: &Blocks<'_>) -> [u16; Session::ROLES]
+    ensures { result ≡ first_heads blocks.now.tables.now blocks.now.roles base.roles }
 {
     let mut heads = [0u16; Session::ROLES];
-    let mut role = 0;
-    let mut start = 0;
-    while role < Session::ROLES {
-        if role < roles {
-            heads[role] = rows::head(tables, start, rows, 0);
+    for role in 0..Session::ROLES {
+        if role < blocks.roles {
+            heads[role] = blocks.block(role).head(0);
         }
-        start += rows;
-        role += 1;
     }
     heads
 }

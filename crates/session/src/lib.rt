@@ -7,13 +7,13 @@ mod heads;
 ghost use Rattle.std.specs.Prelude.{◌≡◌, ◌<◌};
 ghost use Rattle.table.specs.Limits.{base};
 ghost use Rattle.state.specs.mirror.State.{seen};
-ghost use Rattle.session.specs.State.{listed, held, moved, pushed};
+ghost use Rattle.session.specs.State.{listed, nothing, held, moved, pushed};
 ghost use Rattle.session.specs.Promises.{Freshens, Sends, Receives, Awaits};
 ghost use Rattle.session.specs.Results.{answered, delivered, told};
 ghost use Rattle.session.specs.mirror.Taken.{takes};
 
 pub use answers::{Answer, Awaited, Message};
-use blocks::tables;
+use blocks::tables::Blocks;
 pub use state::Refusal;
 use state::State;
 use table::Table;
@@ -44,23 +44,29 @@ impl Session {
     pub fn fresh(tables: &[u16], roles: usize) -> Answer<()>
         ensures { Freshens base tables.now roles (answered base result) }
     {
-        // Tables that are not well formed have no rows here, and so every head is 0.
-        let rows = tables::rows_of(tables, roles);
-        let state = Session {
-            heads: heads::first_heads(tables, roles, rows),
-            counts: [0; Session::PAIRS],
-            labels: [0; Session::SLOTS],
-            payloads: [0; Session::SLOTS],
-        };
-        if rows == 0 {
+        let Some(blocks) = Blocks::of(tables, roles) else {
             return Answer {
                 result: Err(Refusal::Tables),
-                state,
+                state: Session::empty(),
             };
-        }
+        };
+        let mut state = Session::empty();
+        state.heads = heads::first_heads(&blocks);
         Answer {
             result: Ok(()),
             state,
+        }
+    }
+
+    // The state with nothing in it.
+    fn empty() -> Session
+        ensures { result ≡ nothing base }
+    {
+        Session {
+            heads: [0; Session::ROLES],
+            counts: [0; Session::PAIRS],
+            labels: [0; Session::SLOTS],
+            payloads: [0; Session::SLOTS],
         }
     }
 

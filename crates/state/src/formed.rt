@@ -1,14 +1,13 @@
 // Rule 13: a state that is well formed.
-ghost use Rattle.std.specs.Prelude.{◌≡◌, ◌+◌, ◌*◌, ◌<◌, ◌≤◌, get_or};
+ghost use Rattle.std.specs.Prelude.{◌≡◌, ◌+◌, ◌*◌, ◌<◌, get_or};
 ghost use Rattle.words.specs.Below.{every};
 ghost use Rattle.table.specs.Limits.{base};
-ghost use Rattle.blocks.specs.Block.{block_rows};
 ghost use Rattle.slots.specs.mirror.Slots.{pairs};
-ghost use Rattle.state.specs.State.{are_pair, slot_good, queue_good, state_good};
-ghost use Rattle.state.specs.mirror.State.{head_good_at, slot_holds, seen};
+ghost use Rattle.state.specs.State.{are_pair, held, head_good, queue_good, state_good};
+ghost use Rattle.state.specs.mirror.State.{slot_holds, seen};
 
 use crate::State;
-use blocks::rows;
+use blocks::tables::Blocks;
 use slots::DEPTH;
 use table::Table;
 
@@ -19,37 +18,27 @@ pub fn are_pair(roles: usize, sender: usize, receiver: usize) -> bool
     (sender < roles) & (receiver < roles) & (sender != receiver)
 }
 
-// A present role stands on a Send, Receive or End of its block; the place of an absent one is 0.
-fn head_good(
-    tables: &[u16],
-    roles: usize,
-    rows: usize,
-    start: usize,
-    role: usize,
-    head: u16,
-) -> bool
-    ensures { result ≡ head_good_at tables.now roles rows start role head }
-{
-    if role < roles {
-        let at = usize::from(head);
-        let inside = at < rows;
-        inside & rows::stands(rows::row_at(tables, start, at))
-    } else {
-        head == 0
-    }
-}
-
 impl State<'_> {
-    fn heads_good(&self, tables: &[u16], roles: usize, rows: usize) -> bool
-        requires { rows ≤ base.rows }
-        ensures { result ≡ every (λ p. head_good_at tables.now roles rows (p * rows) p (get_or self.now.heads.now p 0)) base.roles }
+    // A present role stands on a Send, Receive or End of its block; the place of an absent one is 0.
+    fn head_good(&self, blocks: &Blocks<'_>, role: usize) -> bool
+        requires { role < base.roles }
+        ensures { result ≡ head_good blocks.now.tables.now blocks.now.roles (seen self.now) role }
     {
-        let mut start = 0;
+        let head = self.heads[role];
+        if role < blocks.roles {
+            (head < blocks.rows) & blocks.block(role).row(head).stands()
+        } else {
+            head == 0
+        }
+    }
+
+    fn heads_good(&self, blocks: &Blocks<'_>) -> bool
+        ensures { result ≡ every (head_good blocks.now.tables.now blocks.now.roles (seen self.now)) base.roles }
+    {
         for role in 0..Table::ROLES {
-            if !head_good(tables, roles, rows, start, role, self.heads[role]) {
+            if !self.head_good(blocks, role) {
                 return false;
             }
-            start += rows;
         }
         true
     }
@@ -71,9 +60,8 @@ impl State<'_> {
         requires { (sender < base.roles) × (receiver < base.roles) }
         ensures { result ≡ queue_good base roles (seen self.now) sender receiver }
     {
-        let pair = sender * Table::ROLES + receiver;
-        let count = usize::from(self.counts[pair]);
-        let at = pair * DEPTH;
+        let count = usize::from(self.count(sender, receiver));
+        let at = (sender * Table::ROLES + receiver) * DEPTH;
         let there = are_pair(roles, sender, receiver);
         let first = self.slot_good(count, at, 0);
         let second = self.slot_good(count, at, 1);
@@ -84,7 +72,7 @@ impl State<'_> {
 
     fn sender_good(&self, roles: usize, sender: usize) -> bool
         requires { sender < base.roles }
-        ensures { result ≡ every (λ q. queue_good base roles (seen self.now) sender q) base.roles }
+        ensures { result ≡ every (queue_good base roles (seen self.now) sender) base.roles }
     {
         for receiver in 0..Table::ROLES {
             if !self.queue_good(roles, sender, receiver) {
@@ -95,7 +83,7 @@ impl State<'_> {
     }
 
     fn queues_good(&self, roles: usize) -> bool
-        ensures { result ≡ every (λ p. every (λ q. queue_good base roles (seen self.now) p q) base.roles) base.roles }
+        ensures { result ≡ every (λ p. every (queue_good base roles (seen self.now) p) base.roles) base.roles }
     {
         for sender in 0..Table::ROLES {
             if !self.sender_good(roles, sender) {
@@ -105,12 +93,12 @@ impl State<'_> {
         true
     }
 
-    // The one test of rule 13, for blocks of that many rows.
-    pub fn is_good(&self, tables: &[u16], roles: usize, rows: usize) -> bool
-        requires { (rows ≡ block_rows tables.now roles) × (rows ≤ base.rows) }
-        ensures { result ≡ state_good base tables.now roles (seen self.now) }
+    // The one test of rule 13.
+    #[tactic(auto, unfolding(crate::specs::State::state_good))]
+    pub fn is_good(&self, blocks: &Blocks<'_>) -> bool
+        ensures { result ≡ state_good base blocks.now.tables.now blocks.now.roles (seen self.now) }
     {
-        let stand = self.heads_good(tables, roles, rows);
-        stand & self.queues_good(roles)
+        let stand = self.heads_good(blocks);
+        stand & self.queues_good(blocks.roles)
     }
 }

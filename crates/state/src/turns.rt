@@ -1,142 +1,128 @@
-// The tests of a call past rules 12 to 14: the kind of the role's head decides. Over good tables and a good state.
+// The tests of a call past rules 12 to 14: the kind of the role's head decides.
 ghost use Rattle.std.specs.Prelude.{◌≡◌, ◌<◌};
 ghost use Rattle.table.specs.Limits.{base};
-ghost use Rattle.blocks.specs.Block.{Send, Receive};
-ghost use Rattle.blocks.specs.Head.{find};
-ghost use Rattle.blocks.specs.mirror.Rows.{said, chain_at};
-ghost use Rattle.state.specs.Awaited.{is_found};
+ghost use Rattle.blocks.specs.Block.{part_row};
+ghost use Rattle.blocks.specs.Head.{find, arms_of};
+ghost use Rattle.state.specs.State.{head_of, held, label_at};
+ghost use Rattle.state.specs.Awaited.{is_found, is_awaited};
 ghost use Rattle.state.specs.mirror.State.{seen};
-ghost use Rattle.state.specs.mirror.Turns.{send_turn, receive_turn, acts_at, LowPeer};
+ghost use Rattle.state.specs.mirror.Turns.{send_from, receive_from, send_arm, receive_arm, LowPeer};
 
 use crate::{Refusal, State};
-use blocks::rows;
-use blocks::rows::{Found, Row};
+use blocks::rows::{Block, Row};
 use slots::DEPTH;
 use table::Table;
 
-// A Send: rule 15 for its peer, then rules 16 and 17.
-#[tactic(auto, unfolding(crate::specs::mirror::Turns::send_turn, crate::specs::mirror::Turns::send_found), using(crate::proofs::Turning::found_nothing, crate::proofs::Turning::found_at))]
-fn send_arm(
-    tables: &[u16],
-    start: usize,
-    rows: usize,
-    part: Row,
-    receiver: usize,
-    label: usize,
-    count: u8,
-) -> Result<u16, Refusal>
-    ensures { result ≡ send_turn base tables.now start rows receiver label count (Send part.first part.second part.third) }
-{
-    if usize::from(part.first) != receiver {
-        return Err(Refusal::Turn);
+impl State<'_> {
+    // How many messages a queue holds.
+    pub fn count(&self, sender: usize, receiver: usize) -> u8
+        requires { (sender < base.roles) × (receiver < base.roles) }
+        ensures { result ≡ held base (seen self.now) sender receiver }
+    {
+        self.counts[sender * Table::ROLES + receiver]
     }
-    match rows::find_arm(tables, start, rows, part.second, label) {
-        Found::Nothing(least) => Err(Refusal::Label(least)),
-        Found::At(then) => {
-            if DEPTH <= usize::from(count) {
-                return Err(Refusal::Full);
+
+    // The label of a queue's oldest message.
+    fn oldest(&self, sender: usize, receiver: usize) -> u8
+        requires { (sender < base.roles) × (receiver < base.roles) }
+        ensures { result ≡ label_at base (seen self.now) sender receiver 0 }
+    {
+        self.labels[(sender * Table::ROLES + receiver) * DEPTH]
+    }
+
+    // Rules 16 and 17, for a Send of that first arm.
+    #[tactic(auto, unfolding(crate::specs::mirror::Turns::send_found), using(crate::proofs::Turning::found_nothing, crate::proofs::Turning::found_at))]
+    fn send_arm(
+        &self,
+        block: &Block<'_>,
+        first: u16,
+        receiver: usize,
+        label: usize,
+    ) -> Result<u16, Refusal>
+        requires { receiver < base.roles }
+        ensures { result ≡ send_arm base block.now.tables.now block.now.roles block.now.role first label (held base (seen self.now) block.now.role receiver) }
+    {
+        match block.find_arm(first, label) {
+            Err(least) => Err(Refusal::Label(least)),
+            Ok(then) => {
+                if DEPTH <= usize::from(self.count(block.role, receiver)) {
+                    return Err(Refusal::Full);
+                }
+                Ok(block.head(then))
             }
-            Ok(rows::head(tables, start, rows, then))
         }
     }
-}
 
-// Rules 15 to 17 for a send of that label, by a role whose head is this row and whose queue holds that many: the row's kind decides.
-#[tactic(auto, using(crate::proofs::Turning::no_send))]
-pub fn send_turn(
-    tables: &[u16],
-    start: usize,
-    rows: usize,
-    part: Row,
-    receiver: usize,
-    label: usize,
-    count: u8,
-) -> Result<u16, Refusal>
-    ensures { result ≡ send_turn base tables.now start rows receiver label count (said part) }
-{
-    let kind = part.kind;
-    match kind {
-        Row::SEND => send_arm(tables, start, rows, part, receiver, label, count),
-        _ => Err(Refusal::Turn),
-    }
-}
-
-// A Receive: rule 15 for its peer, then rules 18 and 19.
-#[tactic(auto, unfolding(crate::specs::mirror::Turns::receive_turn, crate::specs::mirror::Turns::receive_found), using(crate::proofs::Turning::found_nothing, crate::proofs::Turning::found_at))]
-fn receive_arm(
-    tables: &[u16],
-    start: usize,
-    rows: usize,
-    part: Row,
-    sender: usize,
-    count: u8,
-    label: u8,
-) -> Result<u16, Refusal>
-    ensures { result ≡ receive_turn base tables.now start rows sender count label (Receive part.first part.second part.third) }
-{
-    if usize::from(part.first) != sender {
-        return Err(Refusal::Turn);
-    }
-    if count == 0 {
-        return Err(Refusal::Empty);
-    }
-    match rows::find_arm(tables, start, rows, part.second, usize::from(label)) {
-        Found::Nothing(least) => Err(Refusal::Stray(least)),
-        Found::At(then) => Ok(rows::head(tables, start, rows, then)),
-    }
-}
-
-// Rules 15, 18 and 19 for a receive, by a role whose head is this row; the queue holds that many, with that label first.
-#[tactic(auto, using(crate::proofs::Turning::no_receive))]
-pub fn receive_turn(
-    tables: &[u16],
-    start: usize,
-    rows: usize,
-    part: Row,
-    sender: usize,
-    count: u8,
-    label: u8,
-) -> Result<u16, Refusal>
-    ensures { result ≡ receive_turn base tables.now start rows sender count label (said part) }
-{
-    let kind = part.kind;
-    match kind {
-        Row::RECEIVE => receive_arm(tables, start, rows, part, sender, count, label),
-        _ => Err(Refusal::Turn),
-    }
-}
-
-// An arm of the chain that starts at `first` has that label.
-fn has_arm(tables: &[u16], start: usize, rows: usize, first: u16, label: usize) -> bool
-    ensures { result ≡ is_found (find label (chain_at rows tables.now start first)) }
-{
-    let found = rows::find_arm(tables, start, rows, first, label);
-    match found {
-        Found::Nothing(_) => false,
-        Found::At(_) => true,
-    }
-}
-
-impl State<'_> {
-    // A role whose head is this row has a call that would be accepted.
-    #[tactic(auto, unfolding(crate::specs::mirror::Turns::acts_at), using(crate::proofs::Turning::no_action))]
-    pub fn can_act(&self, tables: &[u16], start: usize, rows: usize, role: usize, part: Row) -> bool
-        requires { (role < base.roles) × LowPeer base part }
-        ensures { result ≡ acts_at base tables.now start rows (seen self.now) role (said part) }
+    // Rules 15 to 17 for a send of that label, by the role of that block: the kind of its head decides.
+    #[tactic(auto, using(crate::proofs::Turning::no_send, crate::proofs::Turning::send_else, crate::proofs::Turning::send_there))]
+    pub fn send_turn(
+        &self,
+        block: &Block<'_>,
+        receiver: usize,
+        label: usize,
+    ) -> Result<u16, Refusal>
+        requires { receiver < base.roles }
+        ensures { result ≡ send_from base block.now.tables.now block.now.roles block.now.role receiver label (seen self.now) }
     {
-        let kind = part.kind;
-        match kind {
-            Row::SEND => {
-                let pair = role * Table::ROLES + usize::from(part.first);
-                usize::from(self.counts[pair]) < DEPTH
+        match block.row(self.heads[block.role]) {
+            Row::Send(peer, first, _) => {
+                if usize::from(peer) != receiver {
+                    return Err(Refusal::Turn);
+                }
+                self.send_arm(block, first, receiver, label)
             }
-            Row::RECEIVE => {
-                let pair = usize::from(part.first) * Table::ROLES + role;
-                if self.counts[pair] == 0 {
+            _ => Err(Refusal::Turn),
+        }
+    }
+
+    // Rules 18 and 19, for a Receive of that first arm.
+    #[tactic(auto, unfolding(crate::specs::mirror::Turns::receive_found), using(crate::proofs::Turning::found_nothing, crate::proofs::Turning::found_at))]
+    fn receive_arm(&self, block: &Block<'_>, first: u16, sender: usize) -> Result<u16, Refusal>
+        requires { sender < base.roles }
+        ensures { result ≡ receive_arm base block.now.tables.now block.now.roles block.now.role first (held base (seen self.now) sender block.now.role) (label_at base (seen self.now) sender block.now.role 0) }
+    {
+        if self.count(sender, block.role) == 0 {
+            return Err(Refusal::Empty);
+        }
+        let label = self.oldest(sender, block.role);
+        match block.find_arm(first, usize::from(label)) {
+            Err(least) => Err(Refusal::Stray(least)),
+            Ok(then) => Ok(block.head(then)),
+        }
+    }
+
+    // Rules 15, 18 and 19 for a receive by the role of that block.
+    #[tactic(auto, using(crate::proofs::Turning::no_receive, crate::proofs::Turning::receive_else, crate::proofs::Turning::receive_there))]
+    pub fn receive_turn(&self, block: &Block<'_>, sender: usize) -> Result<u16, Refusal>
+        requires { sender < base.roles }
+        ensures { result ≡ receive_from base block.now.tables.now block.now.roles block.now.role sender (seen self.now) }
+    {
+        match block.row(self.heads[block.role]) {
+            Row::Receive(peer, first, _) => {
+                if usize::from(peer) != sender {
+                    return Err(Refusal::Turn);
+                }
+                self.receive_arm(block, first, sender)
+            }
+            _ => Err(Refusal::Turn),
+        }
+    }
+
+    // The role of that block has a call that would be accepted.
+    #[tactic(auto, unfolding(crate::specs::Awaited::can_act), using(crate::proofs::Turning::no_action, crate::proofs::Turning::found_nothing, crate::proofs::Turning::found_at))]
+    pub fn can_act(&self, block: &Block<'_>) -> bool
+        requires { LowPeer base (part_row block.now.tables.now block.now.roles block.now.role (head_of (seen self.now) block.now.role)) }
+        ensures { result ≡ is_awaited base block.now.tables.now block.now.roles (seen self.now) block.now.role }
+    {
+        match block.row(self.heads[block.role]) {
+            Row::Send(peer, ..) => usize::from(self.count(block.role, usize::from(peer))) < DEPTH,
+            Row::Receive(peer, first, _) => {
+                let sender = usize::from(peer);
+                if self.count(sender, block.role) == 0 {
                     return false;
                 }
-                let label = usize::from(self.labels[pair * DEPTH]);
-                has_arm(tables, start, rows, part.second, label)
+                let label = self.oldest(sender, block.role);
+                block.find_arm(first, usize::from(label)).is_ok()
             }
             _ => false,
         }

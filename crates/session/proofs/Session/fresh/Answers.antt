@@ -1,12 +1,12 @@
 -- `Session::fresh` meets its promise. Assumes nothing.
-use Rattle.session.proofs.Fresh.{rows_low, fresh_refused, fresh_accepted}
+use Rattle.std.proofs.Common.{rules, ◌∙◌}
+use Rattle.session.proofs.Fresh.{fresh_refused, fresh_accepted}
 use Rattle.session.proofs.Session.fresh.Goals as goal
 
-pub first_heads-requires : goal.first_heads-requires
-first_heads-requires c = rows_low c.args.tables.now c.args.roles _ c.rows_of-rows.ensures
-
-pub returns-then-rows-eq0 : goal.returns-then-rows-eq0
-returns-then-rows-eq0 c = fresh_refused c.args.tables.now c.args.roles _ c.rows_of-rows.ensures c.first_heads.ensures c.if-rows-eq0.true
+pub returns-in_default : goal.returns-in_default
+returns-in_default c = rw c.empty.ensures (fresh_refused c.args.tables.now c.args.roles (search rules))
 
 pub returns : goal.returns
-returns c = fresh_accepted c.args.tables.now c.args.roles _ c.rows_of-rows.ensures c.first_heads.ensures c.if-rows-eq0.false
+returns c =
+    let e = c.in-Some.ensures in
+    rw c.empty-state.ensures (fresh_accepted c.args.tables.now c.args.roles e.0 (c.first_heads-state.ensures ∙ rw (e.1, e.2)))

@@ -1,33 +1,28 @@
 -- `heads::first_heads` meets its contract. The loop's invariant: the roles below this one have their heads, the others 0. Assumes nothing.
-use Prim.Native.Nat.{◌-◌, suc}
+use Rattle.std.proofs.Common.{rules, ◌≡◌, refl, ◌∙◌, ◌-◌, suc}
 use mathlib.Core.List.{append-nil}
-use mathlib.Core.Path.{◌≡◌, refl, ◌∙◌}
-use native.Mathlib.Nat.{add-mul, zero-mul}
 use native.Mathlib.Numerals.{add-one}
 use native.Mathlib.Omega.{arith}
-use Rattle.session.specs.mirror.Heads.{heads_from}
+use Rattle.session.specs.Calls.{first_heads}
 use Rattle.session.proofs.First.{one_head, no_head}
 use Rattle.session.proofs.heads.first_heads.Goals as goal
-use Rattle.session.proofs.heads.first_heads.Goals.{then-role-roles, else-role-roles}
+use Rattle.session.proofs.heads.first_heads.Goals.{then-role-blocks, else-role-blocks}
 
 pub loop-role-init : goal.loop-role-init
-unfolding heads_from
-loop-role-init c = (omega arith, omega (arith, zero-mul c.args.rows), omega arith, refl)
+unfolding first_heads
+loop-role-init c = refl
 
 pub loop-role-preserved : goal.loop-role-preserved
 loop-role-preserved c =
-    let left : 8 - c.loop-role.role ≡ suc (8 - suc c.loop-role.role) = omega arith in (
-      omega arith,
-      omega (arith, add-mul c.loop-role.role 1 c.args.rows),
-      omega arith,
-      rw add-one
-          (elim c.if-role-roles.branch [
-            | then-role-roles w ↦ w.heads-is ∙ one_head c.args.tables.now c.args.roles c.args.rows _ _ c.loop-role.start _ left c.loop-role.invariant.3 c.loop-role.invariant.1 w.if-role-roles.true _ w.head.ensures
-            | else-role-roles w ↦ w.heads-is ∙ no_head c.args.tables.now c.args.roles c.args.rows _ _ c.loop-role.start _ left c.loop-role.invariant.3 w.if-role-roles.false
-          ]),
-    )
+    let blocks = c.args.blocks.now in
+    let left : 8 - c.loop-role.role ≡ suc (8 - suc c.loop-role.role) = omega (arith, c.loop-role-test.true) in
+    rw add-one
+    (elim c.if-role-blocks.branch [
+      | then-role-blocks w ↦ w.heads-is ∙ one_head blocks.tables.now blocks.roles _ _ _ left c.loop-role.invariant w.if-role-blocks.true _ (w.head.ensures ∙ rw (w.block.ensures.0, w.block.ensures.1, w.block.ensures.2))
+      | else-role-blocks w ↦ w.heads-is ∙ no_head blocks.tables.now blocks.roles _ _ _ left c.loop-role.invariant w.if-role-blocks.false
+    ])
 
 pub returns : goal.returns
 returns c =
-    let e : c.loop-role.role ≡ 8 = omega arith in
-    rw e at c.loop-role.invariant.3 ∙ append-nil _
+    let e : c.loop-role.role ≡ 8 = search rules in
+    rw e at c.loop-role.invariant ∙ append-nil _

@@ -1,5 +1,5 @@
 -- `State::awaited_set` meets its contract. The loop's invariant: the set holds the awaited roles below this one. Assumes nothing.
-use Rattle.std.proofs.Common.{◌≡◌, ◌≤◌, ◌*◌}
+use Rattle.std.proofs.Common.{◌≡◌}
 use Rattle.words.specs.Below.{set_of}
 use Rattle.table.specs.Limits.{base}
 use Rattle.state.specs.Awaited.{is_awaited}
@@ -7,6 +7,4 @@ use Rattle.state.specs.mirror.State.{seen}
 use Rattle.state.proofs.State.awaited_set.Given as goal
 
 abbrev pub invariant-loop-role : goal.invariant-loop-role
-invariant-loop-role l =
-    (l.start ≡ l.role * l.rows) × (l.start ≤ l.role * 256) × (l.roles ≤ 8) × (l.rows ≤ 256)
-    × (l.set ≡ set_of (is_awaited base l.tables l.roles (seen l.self)) l.role)
+invariant-loop-role l = l.set ≡ set_of (is_awaited base l.blocks.tables.now l.blocks.roles (seen l.self)) l.role
