@@ -10,6 +10,7 @@ use borrow.Author.Tests.{ltb-true, ltb-false}
 use Rattle.words.proofs.Below.{and_both}
 use lib.ListN.{length, take, drop, get_or, length-take, drop_of_length-le}
 use lib.Seq.{drop-cons, get_or-take}
+use Rattle.std.specs.Prelude.{filter}
 use Rattle.scribble.specs.Tokens.{spelled_alike, in_name, name_length, newlines}
 use Rattle.scribble.specs.Names.{index_of}
 use Rattle.scribble.specs.mirror.Starts.{name_from, names_from}
@@ -54,18 +55,15 @@ found_nowhere text xs s i l = rw (drop_of_length-le xs l)
 
 -- ---- newlines
 
-pub newline_more : (xs : List ℕ) (n i : ℕ) → i < n → i < length xs
-    → newlines (drop i (take n xs)) ≡ cond (eqb (get_or xs i 0) 10) 1 0 + newlines (drop (i + 1) (take n xs))
+pub newlines_lem : (xs : List ℕ) → newlines xs ≡ length (filter (λ b. eqb b 10) xs)
 unfolding newlines
-newline_more xs n i l m = rw (first_of xs n i l m) (by (eqb (get_or xs i 0) 10))
+newlines_lem [] = refl
+newlines_lem (x ∷ xs) = by (newlines_lem xs) (eqb x 10)
   where
-    by : (t : Bool) → cond t (suc (newlines (drop (i + 1) (take n xs)))) (newlines (drop (i + 1) (take n xs))) ≡ cond t 1 0 + newlines (drop (i + 1) (take n xs))
-    by true = omega arith
-    by false = omega arith
-
-pub newline_none : (xs : List ℕ) (i : ℕ) → length xs ≤ i → newlines (drop i xs) ≡ 0
-unfolding newlines
-newline_none xs i l = rw (drop_of_length-le xs l)
+    by : newlines xs ≡ length (filter (λ b. eqb b 10) xs) → (t : Bool)
+        → cond t (suc (newlines xs)) (newlines xs) ≡ length (cond t (x ∷ filter (λ b. eqb b 10) xs) (filter (λ b. eqb b 10) xs))
+    by e true = ap suc e
+    by e false = e
 
 -- a loop below two bounds ends at one of them
 pub past_both : (xs : List ℕ) (n i : ℕ) → ltb i n && ltb i (length xs) ≡ false → length (take n xs) ≤ i
@@ -79,9 +77,3 @@ past_both xs n i e = let k = length-take n xs in by (ltb i n) refl (ltb i (lengt
 pub below_both : (i n m : ℕ) → ltb i n && ltb i m ≡ true → (i < n) × (i < m)
 below_both i n m e = let k = and_both (ltb i n) (ltb i m) e in (ltb-true i n k.0, ltb-true i m k.1)
 
-pub newline_one : (b r : ℕ) → r ≡ cond (eqb b 10) 1 0 → r ≤ 1
-newline_one b r e = rw e (by (eqb b 10))
-  where
-    by : (t : Bool) → cond t 1 0 ≤ 1
-    by true = omega arith
-    by false = omega arith

@@ -7,8 +7,7 @@ use native.Mathlib.Omega.{arith}
 use lib.Dec.{ltb, eqb}
 use borrow.Author.Tests.{ltb-true, eqb-true, eqb-false}
 use Rattle.scribble.specs.Refusals.{Fault, blame, fault_when, Finding, faulty, deciding, soonest}
-use Rattle.scribble.specs.declared.faults.Blamed.{Blamed}
-use Rattle.scribble.specs.mirror.Least.{finding_of, noted}
+use Rattle.scribble.specs.mirror.Least.{Blamed, finding_of, noted}
 use Rattle.scribble.proofs.Meet.{meet, earlier, deciding_append}
 
 -- with a fault more, the finding is the earlier of the two

@@ -1,6 +1,6 @@
 -- Names and gaps, byte by byte. Assumes nothing.
 use Prim.Native.Nat.{ℕ, suc, ◌+◌, ◌≤◌, ◌<◌}
-use mathlib.Core.Bool.{Bool, true, false, ◌&&◌, ◌||◌}
+use mathlib.Core.Bool.{Bool, true, false, cond, ◌&&◌, ◌||◌}
 use mathlib.Core.List.{List, [], ◌∷◌}
 use mathlib.Core.Path.{◌≡◌, refl, sym, ◌∙◌, ap}
 use native.Mathlib.Numerals.{add-one}
@@ -9,6 +9,7 @@ use lib.Dec.{ltb, eqb}
 use borrow.Author.Tests.{ltb-true, ltb-false}
 use lib.ListN.{length, drop, get_or, get_or-eq_default, drop_of_length-le}
 use lib.Seq.{drop-cons}
+use Rattle.std.specs.List.{prefix_len}
 use Rattle.scribble.specs.Tokens.{is_blank, in_name, name_length, gap, slash}
 use Rattle.scribble.specs.mirror.Scan.{goes_on, in_comment, gap_left}
 
@@ -26,6 +27,16 @@ inside p bs i none e = go (ltb i (length bs)) refl
 
 pub name_inside : (bs : List ℕ) (i : ℕ) → in_name (get_or bs i 0) ≡ true → i < length bs
 name_inside bs i e = inside (λ b. in_name b) bs i (unfold in_name in refl) e
+
+-- a name is the longest front of bytes of a name
+pub name_length_front : (bs : List ℕ) → name_length bs ≡ prefix_len in_name bs
+unfolding name_length
+name_length_front [] = refl
+name_length_front (b ∷ bs) = by (name_length_front bs) (in_name b)
+  where
+    by : name_length bs ≡ prefix_len in_name bs → (t : Bool) → cond t (suc (name_length bs)) 0 ≡ cond t (1 + prefix_len in_name bs) 0
+    by e true = omega arith
+    by e false = refl
 
 -- one byte more of a name
 pub name_more : (bs : List ℕ) (i : ℕ) → in_name (get_or bs i 0) ≡ true → i + name_length (drop i bs) ≡ (i + 1) + name_length (drop (i + 1) bs)

@@ -4,3 +4,4 @@ pub mod Acts
 pub mod Scan
 pub mod Starts
 pub mod Least
+pub mod Blamed

@@ -1,25 +1,28 @@
 // The fault that decides, of those met so far.
 ghost use Rattle.std.specs.Prelude.{◌≡◌};
 ghost use Rattle.scribble.specs.mirror.Least.{noted};
+ghost use Rattle.scribble.specs.mirror.Blamed.{blamed_of};
 
-// Its place and its number; number 0 for none.
-#[derive(Clone, Copy)]
-pub struct Blamed {
+use std::num::NonZeroU8;
+
+// A fault of a text. Of two, the one at the earlier place comes first; at one place, the one with the lower number.
+#[derive(Clone, Copy, Debug, PartialEq, Eq, PartialOrd, Ord)]
+pub struct Fault {
     pub place: usize,
-    pub number: u8,
+    pub number: NonZeroU8,
 }
 
 // One fault more, where the test holds and the number is not 0.
-pub fn note(least: Blamed, test: bool, place: usize, number: u8) -> Blamed
-    ensures { result ≡ noted least test place number }
+#[tactic(auto, unfolding(crate::specs::mirror::Least::noted))]
+pub fn note(least: Option<Fault>, test: bool, place: usize, number: u8) -> Option<Fault>
+    ensures { blamed_of result ≡ noted (blamed_of least) test place number }
 {
-    let none = least.number == 0;
-    let sooner = (place < least.place) | ((place == least.place) & (number < least.number));
-    if (0 < number) & test & (none | sooner) {
-        return Blamed {
-            place: place,
-            number: number,
-        };
+    let Some(number) = NonZeroU8::new(number).filter(|_| test) else {
+        return least;
+    };
+    let met = Fault { place, number };
+    match least {
+        Some(least) => Some(least.min(met)),
+        None => Some(met),
     }
-    least
 }

@@ -4,52 +4,55 @@ ghost use Rattle.scribble.specs.Tokens.{is_blank, in_name, gap, name_length};
 ghost use Rattle.scribble.specs.mirror.Scan.{goes_on, in_comment};
 
 // Space, tab, carriage return, newline.
+#[tactic(auto, unfolding(crate::specs::Tokens::is_blank))]
 fn blank(b: u8) -> bool
     ensures { result ≡ is_blank b }
 {
-    (b == b' ') | (b == b'\t') | (b == b'\r') | (b == b'\n')
+    matches!(b, b' ' | b'\t' | b'\r' | b'\n')
 }
 
 // A letter, a digit or `_`.
+#[tactic(auto, unfolding(crate::specs::Tokens::in_name))]
 pub fn in_name(b: u8) -> bool
     ensures { result ≡ in_name b }
 {
-    ((b'0' <= b) & (b <= b'9'))
-        | ((b'A' <= b) & (b <= b'Z'))
-        | (b == b'_')
-        | ((b'a' <= b) & (b <= b'z'))
+    b.is_ascii_alphanumeric() || b == b'_'
 }
 
 // The byte at i, or 0 past the end.
 pub fn byte(text: &[u8], i: usize) -> u8
     ensures { result ≡ get_or text.now i 0 }
 {
-    if i < text.len() { text[i] } else { 0 }
+    text.get(i).copied().unwrap_or(0)
+}
+
+// What stands at `at` and behind it: nothing past the end.
+pub fn rest(text: &[u8], at: usize) -> &[u8]
+    ensures { result.now ≡ drop at text.now }
+{
+    text.get(at..).unwrap_or(&[])
 }
 
 // The end of the name at `at`; `at` where no name stands there.
 pub fn name_end(text: &[u8], at: usize) -> usize
     ensures { result ≡ at + name_length (drop at text.now) }
 {
-    let mut i = at;
-    while in_name(byte(text, i)) {
-        i += 1;
-    }
-    i
+    at + rest(text, at).iter().take_while(|b| in_name(**b)).count()
 }
 
 // A byte of white space or of a comment stands at i; `comment`: in a comment.
+#[tactic(auto, using(crate::proofs::Scanning::goes_at, crate::proofs::Scanning::goes_past))]
 fn goes_on(text: &[u8], i: usize, comment: bool) -> bool
     ensures { result ≡ goes_on comment (drop i text.now) }
 {
-    if text.len() <= i {
+    let Some(&b) = text.get(i) else {
         return false;
-    }
-    let b = text[i];
-    comment | blank(b) | ((b == b'/') & (byte(text, i + 1) == b'/'))
+    };
+    comment || blank(b) || (b == b'/' && byte(text, i + 1) == b'/')
 }
 
 // Behind such a byte, in a comment.
+#[tactic(auto, unfolding(crate::specs::mirror::Scan::in_comment))]
 fn in_comment(comment: bool, b: u8) -> bool
     ensures { result ≡ in_comment comment b }
 {
@@ -57,14 +60,16 @@ fn in_comment(comment: bool, b: u8) -> bool
 }
 
 // The place of the first word at `at` or behind it: past white space and comments.
+#[tactic(auto, unfolding(crate::specs::mirror::Scan::gap_left), using(crate::proofs::Scanning::gap_more, crate::proofs::Scanning::gap_over))]
 pub fn skip(text: &[u8], at: usize) -> usize
     ensures { result ≡ at + gap (drop at text.now) }
 {
-    let mut i = at;
     let mut comment = false;
-    while goes_on(text, i, comment) {
-        comment = in_comment(comment, byte(text, i));
-        i += 1;
+    for i in at..text.len() {
+        if !goes_on(text, i, comment) {
+            return i;
+        }
+        comment = in_comment(comment, text[i]);
     }
-    i
+    text.len().max(at)
 }

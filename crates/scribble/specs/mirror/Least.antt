@@ -1,7 +1,11 @@
 -- The fault that decides as two numbers: number 0 is none. Assumes nothing.
 use Rattle.std.specs.Prelude.{ℕ, zero, suc, Bool, cond, ◌&&◌, ◌||◌, ltb, eqb}
 use Rattle.scribble.specs.Refusals.{Finding, faultless, faulty}
-use Rattle.scribble.specs.declared.faults.Blamed.{Blamed}
+
+-- a place and a number
+pub record Blamed : Type 0 where
+  pub place : ℕ
+  pub number : ℕ
 
 abbrev pub finding_of : ℕ → ℕ → Finding
 finding_of place zero = faultless

@@ -1,20 +1,17 @@
--- `scribble::scan::name_end` meets its contract: what is left of the name comes to the same. Assumes nothing.
-use mathlib.Core.Path.{sym, ◌∙◌}
-use native.Mathlib.Omega.{arith}
-use borrow.Author.Rules.{rules}
-use Rattle.scribble.proofs.Scanning.{name_inside, name_more, name_over}
+-- `scribble::scan::name_end` meets its contract. Assumes nothing.
+use Rattle.std.proofs.Common.{rules, tests, ℕ, ◌≡◌, ◌+◌, ap, length, drop}
+use Rattle.std.specs.List.{take_while}
+use Rattle.std.proofs.lemmas.Iterator.{YieldsList-from_slice}
+use Rattle.std.proofs.lemmas.Iterator.Search.{YieldsList-from_take_while}
+use Rattle.std.proofs.lemmas.Iterator.Consumers.{count_from_yields_List}
+use Rattle.std.proofs.lemmas.List.Folds.{length-prefix_len}
+use Rattle.scribble.specs.Tokens.{in_name}
+use Rattle.scribble.proofs.Scanning.{name_length_front}
 use Rattle.scribble.proofs.scan.name_end.Goals as goal
-
-pub overflow_add-i : goal.overflow_add-i
-overflow_add-i c = let l = name_inside c.args.text.now c.loop-i.i (sym (rw c.byte.ensures at c.in_name.ensures) ∙ c.loop-i-test.true) in search rules
-
-pub loop-i-smaller : goal.loop-i-smaller
-loop-i-smaller c = let l = name_inside c.args.text.now c.loop-i.i (sym (rw c.byte.ensures at c.in_name.ensures) ∙ c.loop-i-test.true) in omega arith
-
-pub loop-i-preserved : goal.loop-i-preserved
-loop-i-preserved c = c.loop-i.invariant ∙ name_more c.args.text.now c.loop-i.i (sym (rw c.byte.ensures at c.in_name.ensures) ∙ c.loop-i-test.true)
 
 pub returns : goal.returns
 returns c =
-    let e = sym (rw c.byte.ensures at c.in_name.ensures) ∙ c.loop-i-test.false in
-    name_over c.args.text.now c.loop-i.i e ∙ sym c.loop-i.invariant
+    let bs = drop c.args.at c.args.text.now in
+    let e : c.count.result ≡ length (take_while in_name bs) =
+        count_from_yields_List _ _ c.count.ensures.ran (YieldsList-from_take_while _ in_name (YieldsList-from_slice bs cc) c.take_while.ensures.closure c.take_while.ensures.done (λ x b q k. search (rules, tests))) in
+    ap (λ (n : ℕ). c.args.at + n) (rw (name_length_front, ← (length-prefix_len in_name bs)) e)
