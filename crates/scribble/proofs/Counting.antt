@@ -1,6 +1,6 @@
 -- Names among names, one by one; the bytes of a name; the newlines before a place. Assumes nothing.
 use Prim.Native.Nat.{ℕ, suc, ◌+◌, ◌≤◌, ◌<◌}
-use mathlib.Core.Bool.{Bool, true, false, true≢false, cond, ◌&&◌}
+use mathlib.Core.Bool.{Bool, true, false, true≢false, not, cond, ◌&&◌}
 use mathlib.Core.List.{List, [], ◌∷◌}
 use mathlib.Core.Path.{◌≡◌, refl, ◌∙◌, ap}
 use native.Mathlib.Omega.{arith}
@@ -8,11 +8,12 @@ use native.Mathlib.Numerals.{add-one}
 use lib.Dec.{ltb, eqb}
 use borrow.Author.Tests.{ltb-true, ltb-false}
 use Rattle.words.proofs.Below.{and_both}
-use lib.ListN.{length, take, drop, get_or, length-take, drop_of_length-le}
+use lib.ListN.{length, length-map, take, drop, get_or, length-take, drop_of_length-le}
 use lib.Seq.{drop-cons, get_or-take}
-use Rattle.std.specs.Prelude.{filter}
+use Rattle.std.proofs.Common.{Some, None}
+use Rattle.std.specs.List.{filter, position_or_len}
 use Rattle.scribble.specs.Tokens.{spelled_alike, in_name, name_length, newlines}
-use Rattle.scribble.specs.Names.{index_of}
+use Rattle.scribble.specs.Names.{index_of, is_in, number_of}
 use Rattle.scribble.specs.mirror.Starts.{name_from, names_from}
 
 -- ---- the bytes of a name
@@ -77,3 +78,20 @@ past_both xs n i e = let k = length-take n xs in by (ltb i n) refl (ltb i (lengt
 pub below_both : (i n m : ℕ) → ltb i n && ltb i m ≡ true → (i < n) × (i < m)
 below_both i n m e = let k = and_both (ltb i n) (ltb i m) e in (ltb-true i n k.0, ltb-true i m k.1)
 
+
+-- a place among places where names start, and the number of a name among the names
+pub index_of_names : (text s xs : List ℕ) → index_of s (names_from text xs) ≡ position_or_len (λ x. spelled_alike (name_from text x) s) xs
+unfolding index_of
+index_of_names text s [] = refl
+index_of_names text s (x ∷ xs) = by (index_of_names text s xs) (spelled_alike (name_from text x) s)
+  where
+    by : index_of s (names_from text xs) ≡ position_or_len (λ x'. spelled_alike (name_from text x') s) xs → (t : Bool)
+        → cond t 0 (suc (index_of s (names_from text xs))) ≡ cond (not t) (1 + position_or_len (λ x'. spelled_alike (name_from text x') s) xs) 0
+    by e true = refl
+    by e false = omega arith
+
+pub number_of_names : (text s xs : List ℕ)
+    → number_of s (names_from text xs)
+    ≡ cond (ltb (position_or_len (λ x. spelled_alike (name_from text x) s) xs) (length xs)) (Some (position_or_len (λ x. spelled_alike (name_from text x) s) xs)) None
+unfolding is_in
+number_of_names text s xs = rw (index_of_names text s xs, length-map)

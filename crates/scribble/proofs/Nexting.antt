@@ -6,10 +6,11 @@ use mathlib.Core.Path.{◌≡◌, sym, ◌∙◌, ap}
 use native.Mathlib.Omega.{arith}
 use lib.ListN.{length, take, drop, get_or, drop_of_length-le}
 use lib.Seq.{drop-cons}
-use Rattle.scribble.specs.Tokens.{sort_number, in_name, gap, name_length, extent, sort_of}
+use Rattle.scribble.specs.Tokens.{Sort, sort_number, in_name, gap, name_length, extent, sort_of}
 use Rattle.scribble.specs.mirror.Scan.{mark_of, keyword_of, IsNext}
 use Rattle.scribble.specs.mirror.Starts.{name_from}
 use Rattle.scribble.proofs.Naming.{name_cons}
+use Rattle.scribble.proofs.Counting.{name_length_lem}
 use Rattle.scribble.proofs.Sorting.{sort_name, sort_mark}
 
 module _ (text : List ℕ) (at start : ℕ) (s : start ≡ at + gap (drop at text)) where
@@ -27,18 +28,18 @@ module _ (text : List ℕ) (at start : ℕ) (s : start ≡ at + gap (drop at tex
   spelled_name x = ap (λ (k : ℕ). take k (drop start text)) x
 
   module _ (l : start < length text) where
-    pub next_name : (k end : ℕ) → in_name (get_or text start 0) ≡ true → k ≡ sort_number (keyword_of (name_from text start)) → end ≡ start + name_length (drop start text)
-        → IsNext text at k start end
+    pub next_name : (k : Sort) (end : ℕ) → in_name (get_or text start 0) ≡ true → k ≡ keyword_of (name_from text start) → end ≡ start + length (name_from text start)
+        → IsNext text at (sort_number k) start end
     unfolding extent
     next_name k end i e f =
         let x : extent (drop start text) ≡ name_length (drop start text) = rw (drop-cons text start 0 l, i) in
         record {
           starts = s;
-          ends = f ∙ ap (λ (n : ℕ). start + n) (sym x);
-          sorted = e ∙ ap sort_number (sym (name_sort i) ∙ ap sort_of (sym (spelled_name x)));
+          ends = f ∙ ap (λ (n : ℕ). start + n) (name_length_lem text start ∙ sym x);
+          sorted = ap sort_number (e ∙ (sym (name_sort i) ∙ ap sort_of (sym (spelled_name x))));
         }
 
-    pub next_mark : (k : ℕ) → in_name (get_or text start 0) ≡ false → k ≡ sort_number (mark_of (get_or text start 0)) → IsNext text at k start (start + 1)
+    pub next_mark : (k : Sort) → in_name (get_or text start 0) ≡ false → k ≡ mark_of (get_or text start 0) → IsNext text at (sort_number k) start (start + 1)
     unfolding extent
     next_mark k i e =
         let d = drop-cons text start 0 l in
@@ -47,5 +48,5 @@ module _ (text : List ℕ) (at start : ℕ) (s : start ≡ at + gap (drop at tex
         record {
           starts = s;
           ends = ap (λ (n : ℕ). start + n) (sym x);
-          sorted = e ∙ ap sort_number (sym (sort_mark (get_or text start 0) i) ∙ ap sort_of (sym t));
+          sorted = ap sort_number (e ∙ (sym (sort_mark (get_or text start 0) i) ∙ ap sort_of (sym t)));
         }

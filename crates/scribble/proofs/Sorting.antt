@@ -1,12 +1,17 @@
 -- What a token is, by its first byte: a name or keyword where that is a byte of a name, else a mark or another byte. Assumes nothing.
 use Prim.Native.Nat.{ℕ}
-use mathlib.Core.Bool.{Bool, true, false, true≢false, cond, and-false, and-true}
+use mathlib.Core.Bool.{Bool, true, false, true≢false, cond, ◌&&◌, and-false, and-true}
 use mathlib.Core.List.{List, [], ◌∷◌}
 use mathlib.Core.Path.{◌≡◌, refl, sym, ◌∙◌, ap}
 use lib.Dec.{eqb}
 use borrow.Author.Tests.{eqb-true, ne_eqb}
-use Rattle.scribble.specs.Tokens.{Sort, sort_number, spelled_alike, other_byte, in_name, Reserved, reserved_sort, sort_of}
+use Rattle.std.proofs.Common.{Option, None, Some, Bor, map}
+use Rattle.std.specs.List.{find}
+use Rattle.std.specs.Str.{bytes_eq}
+use Rattle.scribble.specs.declared.token.Sort.{Sort as Code}
+use Rattle.scribble.specs.Tokens.{Sort, a_name, sort_number, spelled_alike, other_byte, in_name, Reserved, reserved_sort, sort_of}
 use Rattle.scribble.specs.mirror.Scan.{mark_of, keyword_of}
+use Rattle.scribble.specs.mirror.Sorts.{sort_meant, reserved_as}
 
 -- a byte that no name has is none of a name's
 no_mark : (m b : ℕ) → in_name m ≡ false → in_name b ≡ true → eqb m b ≡ false
@@ -36,18 +41,29 @@ pub sort_mark : (b : ℕ) → in_name b ≡ false → sort_of (b ∷ []) ≡ mar
 unfolding sort_of mark_of reserved_sort spelled_alike
 sort_mark b e = simp (and-false, and-true, e)
 
--- the number of a reserved word's sort
-unfoldable pub reserved_number : List Reserved → ℕ → List ℕ → ℕ
-reserved_number [] other s = other
-reserved_number (f ∷ fs) other s = cond (spelled_alike f.spelling s) (sort_number f.reserved_as) (reserved_number fs other s)
+spelled_alike_bytes : (xs ys : List ℕ) → spelled_alike xs ys ≡ bytes_eq xs ys
+unfolding spelled_alike
+spelled_alike_bytes [] [] = refl
+spelled_alike_bytes [] (y ∷ ys) = refl
+spelled_alike_bytes (x ∷ xs) [] = refl
+spelled_alike_bytes (x ∷ xs) (y ∷ ys) = ap (λ b. eqb x y && b) (spelled_alike_bytes xs ys)
 
-pub reserved_number_lem : (fs : List Reserved) (other : Sort) (s : List ℕ) → sort_number (reserved_sort fs other s) ≡ reserved_number fs (sort_number other) s
-unfolding reserved_number reserved_sort
-reserved_number_lem [] other s = refl
-reserved_number_lem (f ∷ fs) other s = by (reserved_number_lem fs other s) (spelled_alike f.spelling s)
+-- the entries of a table of the code, as reserved words
+abbrev pub entries : List (Bor (List ℕ) × Code) → List Reserved
+entries table = map (λ k. reserved_as k.0.now k.1) table
+
+-- what a search for the entry of a word answers
+abbrev pub entry_sort : Option (Bor (List ℕ) × Code) → Sort
+entry_sort None = a_name
+entry_sort (Some k) = sort_meant k.1
+
+pub reserved_sort_find : (table : List (Bor (List ℕ) × Code)) (s : List ℕ) → entry_sort (find (λ k. bytes_eq k.0.now s) table) ≡ reserved_sort (entries table) a_name s
+unfolding reserved_sort
+reserved_sort_find [] s = refl
+reserved_sort_find (k ∷ ks) s = rw (spelled_alike_bytes k.0.now s) (by (reserved_sort_find ks s) (bytes_eq k.0.now s))
   where
-    by : sort_number (reserved_sort fs other s) ≡ reserved_number fs (sort_number other) s → (t : Bool)
-        → sort_number (cond t f.reserved_as (reserved_sort fs other s)) ≡ cond t (sort_number f.reserved_as) (reserved_number fs (sort_number other) s)
+    by : entry_sort (find (λ k'. bytes_eq k'.0.now s) ks) ≡ reserved_sort (entries ks) a_name s
+        → (t : Bool) → entry_sort (cond t (Some k) (find (λ k'. bytes_eq k'.0.now s) ks)) ≡ cond t (sort_meant k.1) (reserved_sort (entries ks) a_name s)
     by e true = refl
     by e false = e
 

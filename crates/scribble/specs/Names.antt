@@ -1,5 +1,5 @@
 -- Request K1: names of a text. They are the same when they are written alike; roles number as listed, labels by first appearance. Assumes nothing.
-use Rattle.std.specs.Prelude.{ℕ, suc, Bool, cond, List, [], ◌∷◌, ◌++◌, map, ltb, length}
+use Rattle.std.specs.Prelude.{ℕ, suc, Bool, cond, Option, None, Some, List, [], ◌∷◌, ◌++◌, map, ltb, length}
 use Rattle.scribble.specs.Tokens.{spelled_alike}
 use Rattle.scribble.specs.Grammar.{Name, name_at}
 
@@ -22,6 +22,10 @@ index_of s (n ∷ ns) = let later = suc (index_of s ns) in cond (spelled_alike n
 unfoldable pub is_in : List ℕ → List (List ℕ) → Bool
 unfolding index_of
 is_in s ns = ltb (index_of s ns) (length ns)
+
+-- the number of a name among names, where it is one of them
+abbrev pub number_of : List ℕ → List (List ℕ) → Option ℕ
+number_of s ns = cond (is_in s ns) (Some (index_of s ns)) None
 
 -- the names that were not met before, in the order met; `before` are those met before
 unfoldable pub firsts : List (List ℕ) → List Name → List Name

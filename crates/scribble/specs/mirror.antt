@@ -5,3 +5,4 @@ pub mod Scan
 pub mod Starts
 pub mod Least
 pub mod Blamed
+pub mod Sorts

@@ -1,5 +1,5 @@
 // The words of a text: where the next one starts and ends, and what it is.
-ghost use Rattle.std.specs.Prelude.{◌≡◌, ◌+◌, drop, get_or};
+ghost use Rattle.std.specs.Prelude.{◌≡◌, ◌≤◌, ◌+◌, length, drop, get_or};
 ghost use Rattle.scribble.specs.Tokens.{is_blank, in_name, gap, name_length};
 ghost use Rattle.scribble.specs.mirror.Scan.{goes_on, in_comment};
 
@@ -27,17 +27,25 @@ pub fn byte(text: &[u8], i: usize) -> u8
 }
 
 // What stands at `at` and behind it: nothing past the end.
-pub fn rest(text: &[u8], at: usize) -> &[u8]
+pub(crate) fn rest(text: &[u8], at: usize) -> &[u8]
     ensures { result.now ≡ drop at text.now }
 {
     text.get(at..).unwrap_or(&[])
+}
+
+// How many bytes of a name stand at the front.
+pub(crate) fn name_length(bytes: &[u8]) -> usize
+    ensures count { result ≡ name_length bytes.now }
+    ensures inside { result ≤ length bytes.now }
+{
+    bytes.iter().take_while(|b| in_name(**b)).count()
 }
 
 // The end of the name at `at`; `at` where no name stands there.
 pub fn name_end(text: &[u8], at: usize) -> usize
     ensures { result ≡ at + name_length (drop at text.now) }
 {
-    at + rest(text, at).iter().take_while(|b| in_name(**b)).count()
+    at + name_length(rest(text, at))
 }
 
 // A byte of white space or of a comment stands at i; `comment`: in a comment.

@@ -1,130 +1,118 @@
 // The words of a text, one after the other: what each is, where it starts and ends.
-ghost use Rattle.std.specs.Prelude.{cond, ◌≡◌};
-ghost use Rattle.scribble.specs.Tokens.{sort_number, spelled_alike};
+ghost use Rattle.std.specs.Prelude.{◌≡◌, map};
+ghost use Rattle.scribble.specs.Tokens.{sort_number, a_name, reserved_sort};
 ghost use Rattle.scribble.specs.mirror.Scan.{mark_of, keyword_of, IsNext};
-ghost use Rattle.scribble.specs.mirror.Starts.{name_from};
+ghost use Rattle.scribble.specs.mirror.Sorts.{sort_meant, reserved_as};
 
 use crate::{names, scan};
 
-#[derive(Clone, Copy)]
+// What a word of a text is: a name, a keyword, a mark, any other byte, or the end of the text.
+#[derive(Clone, Copy, Debug, PartialEq, Eq)]
+pub enum Sort {
+    Name,
+    Module,
+    Global,
+    Protocol,
+    Role,
+    Choice,
+    At,
+    Or,
+    Rec,
+    Continue,
+    From,
+    To,
+    Open,
+    Close,
+    Left,
+    Right,
+    Comma,
+    Semi,
+    Dot,
+    Other,
+    End,
+}
+
+#[derive(Clone, Copy, Debug, PartialEq, Eq)]
 pub struct Token {
-    pub sort: u8,
+    pub sort: Sort,
     pub start: usize,
     pub end: usize,
 }
 
-// The sorts, by their numbers.
-impl Token {
-    pub const NAME: u8 = 0;
-
-    pub const MODULE: u8 = 1;
-
-    pub const GLOBAL: u8 = 2;
-
-    pub const PROTOCOL: u8 = 3;
-
-    pub const ROLE: u8 = 4;
-
-    pub const CHOICE: u8 = 5;
-
-    pub const AT: u8 = 6;
-
-    pub const OR: u8 = 7;
-
-    pub const REC: u8 = 8;
-
-    pub const CONTINUE: u8 = 9;
-
-    pub const FROM: u8 = 10;
-
-    pub const TO: u8 = 11;
-
-    pub const OPEN: u8 = 12;
-
-    pub const CLOSE: u8 = 13;
-
-    pub const LEFT: u8 = 14;
-
-    pub const RIGHT: u8 = 15;
-
-    pub const COMMA: u8 = 16;
-
-    pub const SEMI: u8 = 17;
-
-    pub const DOT: u8 = 18;
-
-    pub const OTHER: u8 = 19;
-
-    pub const END: u8 = 20;
-}
-
 // What a byte is that no name has.
-fn mark(b: u8) -> u8
-    ensures { result ≡ sort_number (mark_of b) }
+#[tactic(auto, unfolding(crate::specs::mirror::Scan::mark_of), using(crate::proofs::Sorting::no_mark_at_all))]
+fn mark(b: u8) -> Sort
+    ensures { sort_meant result ≡ mark_of b }
 {
     match b {
-        b'{' => Token::OPEN,
-        b'}' => Token::CLOSE,
-        b'(' => Token::LEFT,
-        b')' => Token::RIGHT,
-        b',' => Token::COMMA,
-        b';' => Token::SEMI,
-        b'.' => Token::DOT,
-        _ => Token::OTHER,
+        b'{' => Sort::Open,
+        b'}' => Sort::Close,
+        b'(' => Sort::Left,
+        b')' => Sort::Right,
+        b',' => Sort::Comma,
+        b';' => Sort::Semi,
+        b'.' => Sort::Dot,
+        _ => Sort::Other,
     }
 }
 
-// `sort` where the name at `at` is written as `word`, else `rest`.
-fn or_else(text: &[u8], at: usize, word: &[u8], sort: u8, rest: u8) -> u8
-    ensures { result ≡ cond (spelled_alike (name_from word.now 0) (name_from text.now at)) sort rest }
+// How each keyword is written, and what it is.
+static KEYWORDS: [(&[u8], Sort); 11] = [
+    (b"module", Sort::Module),
+    (b"global", Sort::Global),
+    (b"protocol", Sort::Protocol),
+    (b"role", Sort::Role),
+    (b"choice", Sort::Choice),
+    (b"at", Sort::At),
+    (b"or", Sort::Or),
+    (b"rec", Sort::Rec),
+    (b"continue", Sort::Continue),
+    (b"from", Sort::From),
+    (b"to", Sort::To),
+];
+
+// What the table says of the name: no keyword, where it says nothing.
+fn lookup(table: &[(&[u8], Sort)], name: &[u8]) -> Sort
+    ensures { sort_meant result ≡ reserved_sort (map (λ entry. reserved_as entry.0.now entry.1) table.entry.now) a_name name.now }
 {
-    if names::same(word, 0, text, at) {
-        sort
-    } else {
-        rest
+    match table.iter().find(|(word, _)| *word == name) {
+        Some((_, sort)) => *sort,
+        None => Sort::Name,
     }
 }
 
-// What the name at `at` is: a keyword, or no keyword.
-fn keyword(text: &[u8], at: usize) -> u8
-    ensures { result ≡ sort_number (keyword_of (name_from text.now at)) }
+// What a name is: a keyword, or no keyword.
+#[tactic(auto, unfolding(crate::specs::mirror::Scan::keyword_of))]
+fn keyword(name: &[u8]) -> Sort
+    ensures { sort_meant result ≡ keyword_of name.now }
 {
-    let k = or_else(text, at, b"to", Token::TO, Token::NAME);
-    let k = or_else(text, at, b"from", Token::FROM, k);
-    let k = or_else(text, at, b"continue", Token::CONTINUE, k);
-    let k = or_else(text, at, b"rec", Token::REC, k);
-    let k = or_else(text, at, b"or", Token::OR, k);
-    let k = or_else(text, at, b"at", Token::AT, k);
-    let k = or_else(text, at, b"choice", Token::CHOICE, k);
-    let k = or_else(text, at, b"role", Token::ROLE, k);
-    let k = or_else(text, at, b"protocol", Token::PROTOCOL, k);
-    let k = or_else(text, at, b"global", Token::GLOBAL, k);
-    or_else(text, at, b"module", Token::MODULE, k)
+    lookup(&KEYWORDS, name)
 }
 
 // The first word at `at` or behind it; at the end of the text its end, of no byte.
+#[tactic(auto, using(crate::proofs::Nexting::next_end, crate::proofs::Nexting::next_name, crate::proofs::Nexting::next_mark))]
 pub fn next(text: &[u8], at: usize) -> Token
-    ensures { IsNext text.now at result.sort result.start result.end }
+    ensures { IsNext text.now at (sort_number (sort_meant result.sort)) result.start result.end }
 {
     let start = scan::skip(text, at);
-    if text.len() <= start {
+    let Some(&first) = text.get(start) else {
         return Token {
-            sort: Token::END,
-            start: start,
+            sort: Sort::End,
+            start,
             end: start,
         };
-    }
-    let b = text[start];
-    if scan::in_name(b) {
+    };
+    if !scan::in_name(first) {
         return Token {
-            sort: keyword(text, start),
-            start: start,
-            end: scan::name_end(text, start),
+            sort: mark(first),
+            start,
+            end: start + 1,
         };
     }
+    let name = names::name(text, start);
     Token {
-        sort: mark(b),
-        start: start,
-        end: start + 1,
+        sort: keyword(name),
+        start,
+        end: start + name.len(),
     }
 }

@@ -14,3 +14,7 @@ names_from text starts = map (λ a. name_from text a) starts
 unfoldable pub same_byte : List ℕ → ℕ → List ℕ → ℕ → Bool
 unfolding in_name
 same_byte one i other j = in_name (get_or one i 0) && eqb (get_or one i 0) (get_or other j 0)
+
+-- both are the same byte of a name
+abbrev pub shared : ℕ × ℕ → Bool
+shared p = eqb p.0 p.1 && in_name p.0

@@ -1,25 +1,20 @@
--- `scribble::names::same` meets its contract: what is left of both names is the same exactly where they are. Assumes nothing.
-use mathlib.Core.Path.{sym, ◌∙◌}
-use native.Mathlib.Omega.{arith}
-use borrow.Author.Rules.{rules}
-use Rattle.scribble.proofs.Naming.{first_inside, same_more, same_over}
+-- `scribble::names::same` meets its contract. Assumes nothing.
+use Rattle.std.proofs.Common.{drop, refl}
+use Rattle.scribble.specs.mirror.Starts.{name_from}
+use Rattle.scribble.proofs.Naming.{same_front}
 use Rattle.scribble.proofs.names.same.Goals as goal
 
-pub overflow_add-i : goal.overflow_add-i
-overflow_add-i c = let l = first_inside c.args.one.now c.loop-i.i c.args.other.now c.loop-i.j (sym c.go_on.ensures ∙ c.loop-i-test.true) in search rules
+pub returns-then-not-in_name : goal.returns-then-not-in_name
+unfolding name_from
+returns-then-not-in_name c =
+    let f = rw (c.byte.ensures, c.rest-one.ensures) at c.in_name.ensures in
+    let g = rw (c.byte-then-not-in_name.ensures, c.rest-other.ensures) at c.in_name-then-not-in_name.ensures in
+    let e = rw (c.rest-one.ensures, c.rest-other.ensures) at c.shared-end.ensures in
+    rw c.if-not-in_name.true at (same_front (drop c.args.a c.args.one.now) (drop c.args.b c.args.other.now) _ _ _ e f g)
 
-pub overflow_add-j : goal.overflow_add-j
-overflow_add-j c = let l = first_inside c.args.one.now c.loop-i.i c.args.other.now c.loop-i.j (sym c.go_on.ensures ∙ c.loop-i-test.true) in search rules
-
-pub loop-i-smaller : goal.loop-i-smaller
-loop-i-smaller c = let l = first_inside c.args.one.now c.loop-i.i c.args.other.now c.loop-i.j (sym c.go_on.ensures ∙ c.loop-i-test.true) in omega arith
-
-pub loop-i-preserved : goal.loop-i-preserved
-loop-i-preserved c = c.loop-i.invariant ∙ same_more c.args.one.now c.loop-i.i c.args.other.now c.loop-i.j (sym c.go_on.ensures ∙ c.loop-i-test.true)
-
-pub returns : goal.returns
-returns c =
-    let e = rw c.byte.ensures at c.in_name.ensures in
-    let f = rw c.byte-2.ensures at c.in_name-2.ensures in
-    same_over c.args.one.now c.loop-i.i c.args.other.now c.loop-i.j _ _ (sym e) (sym f) (sym c.go_on.ensures ∙ c.loop-i-test.false)
-    ∙ sym c.loop-i.invariant
+pub returns-else-not-in_name : goal.returns-else-not-in_name
+unfolding name_from
+returns-else-not-in_name c =
+    let f = rw (c.byte.ensures, c.rest-one.ensures) at c.in_name.ensures in
+    let e = rw (c.rest-one.ensures, c.rest-other.ensures) at c.shared-end.ensures in
+    rw c.if-not-in_name.false (rw c.if-not-in_name.false at (same_front (drop c.args.a c.args.one.now) (drop c.args.b c.args.other.now) _ _ _ e f refl))
