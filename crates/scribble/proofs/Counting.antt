@@ -7,7 +7,7 @@ use native.Mathlib.Omega.{arith}
 use native.Mathlib.Numerals.{add-one}
 use lib.Dec.{ltb, eqb}
 use borrow.Author.Tests.{ltb-true, ltb-false}
-use Rattle.words.proofs.Below.{and_both}
+use Rattle.std.proofs.lemmas.Bool.{and_parts}
 use lib.ListN.{length, length-map, take, drop, get_or, length-take, drop_of_length-le}
 use lib.Seq.{drop-cons, get_or-take}
 use Rattle.std.proofs.Common.{Some, None}
@@ -31,29 +31,6 @@ pub name_length_lem : (text : List ℕ) (a : ℕ) → length (name_from text a) 
 unfolding name_from
 name_length_lem text a = let l = name_fits (drop a text) in length-take (name_length (drop a text)) (drop a text) ∙ omega arith
 
--- ---- a name among the first of these places
-
-pub inside : (xs : List ℕ) (n i : ℕ) → i < n → i < length xs → i < length (take n xs)
-inside xs n i l m = let e = length-take n xs in omega arith
-
-first_of : (xs : List ℕ) (n i : ℕ) → i < n → i < length xs → drop i (take n xs) ≡ get_or xs i 0 ∷ drop (i + 1) (take n xs)
-first_of xs n i l m =
-    rw (add-one i) (drop-cons (take n xs) i 0 (inside xs n i l m) ∙ ap (λ (x : ℕ). x ∷ drop (suc i) (take n xs)) (get_or-take n xs i 0 l))
-
-module _ (text : List ℕ) (xs : List ℕ) (n : ℕ) (s : List ℕ) (i : ℕ) (l : i < n) (m : i < length xs) where
-  pub found_here : spelled_alike (name_from text (get_or xs i 0)) s ≡ true → index_of s (names_from text (drop i (take n xs))) ≡ 0
-  unfolding index_of
-  found_here e = rw (first_of xs n i l m, e)
-
-  pub found_later : spelled_alike (name_from text (get_or xs i 0)) s ≡ false
-      → index_of s (names_from text (drop i (take n xs))) ≡ 1 + index_of s (names_from text (drop (i + 1) (take n xs)))
-  unfolding index_of
-  found_later e = rw (first_of xs n i l m, e) (omega arith)
-
-pub found_nowhere : (text xs s : List ℕ) (i : ℕ) → length xs ≤ i → index_of s (names_from text (drop i xs)) ≡ 0
-unfolding index_of
-found_nowhere text xs s i l = rw (drop_of_length-le xs l)
-
 -- ---- newlines
 
 pub newlines_lem : (xs : List ℕ) → newlines xs ≡ length (filter (λ b. eqb b 10) xs)
@@ -65,19 +42,6 @@ newlines_lem (x ∷ xs) = by (newlines_lem xs) (eqb x 10)
         → cond t (suc (newlines xs)) (newlines xs) ≡ length (cond t (x ∷ filter (λ b. eqb b 10) xs) (filter (λ b. eqb b 10) xs))
     by e true = ap suc e
     by e false = e
-
--- a loop below two bounds ends at one of them
-pub past_both : (xs : List ℕ) (n i : ℕ) → ltb i n && ltb i (length xs) ≡ false → length (take n xs) ≤ i
-past_both xs n i e = let k = length-take n xs in by (ltb i n) refl (ltb i (length xs)) refl e
-  where
-    by : (a : Bool) → ltb i n ≡ a → (b : Bool) → ltb i (length xs) ≡ b → a && b ≡ false → length (take n xs) ≤ i
-    by true p true q z = absurd (true≢false z)
-    by true p false q z = let l = ltb-false i (length xs) q in let k = length-take n xs in omega arith
-    by false p b q z = let l = ltb-false i n p in let k = length-take n xs in omega arith
-
-pub below_both : (i n m : ℕ) → ltb i n && ltb i m ≡ true → (i < n) × (i < m)
-below_both i n m e = let k = and_both (ltb i n) (ltb i m) e in (ltb-true i n k.0, ltb-true i m k.1)
-
 
 -- a place among places where names start, and the number of a name among the names
 pub index_of_names : (text s xs : List ℕ) → index_of s (names_from text xs) ≡ position_or_len (λ x. spelled_alike (name_from text x) s) xs

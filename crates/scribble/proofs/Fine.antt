@@ -9,7 +9,7 @@ use Rattle.scribble.specs.Tokens.{spelled_alike}
 use Rattle.scribble.specs.Grammar.{Name, Stmt, message, choice, recursion, continue, Block, ends, then, Blocks, no_more, or}
 use Rattle.scribble.specs.Names.{spelled, stands_at}
 use Rattle.scribble.specs.Refusals.{start_of, is_last, beginning_of, last_faults, last_faults_in, last_faults_among, message_start, beginning_in, beginnings_among, choice_receiver, wrong_start, choice_faults, choice_faults_in, choice_faults_among, Fault, blame, fault_when, CHOICE, LAST}
-use Rattle.words.proofs.Below.{and_both}
+use Rattle.std.proofs.lemmas.Bool.{and_parts}
 use Rattle.scribble.proofs.Same.{same_true}
 
 -- a block that is at its end
@@ -60,7 +60,7 @@ begins_well : (from to : List ℕ) (l e : ℕ) (p q : List ℕ) → wrong_start 
 unfolding wrong_start
 begins_well from to l e p q h =
     let t = spelled_alike p from && spelled_alike q to in
-    let v = and_both (spelled_alike p from) (spelled_alike q to) (not-false t (fault_when_none (not t) (blame l CHOICE e) h)) in
+    let v = and_parts (spelled_alike p from) (spelled_alike q to) (not-false t (fault_when_none (not t) (blame l CHOICE e) h)) in
     (same_true p from v.0, same_true q to v.1)
 
 -- a statement with the block behind it

@@ -7,7 +7,13 @@ use native.Mathlib.Omega.{arith}
 use lib.Dec.{ltb, eqb}
 use borrow.Author.Tests.{ltb-true, eqb-true, eqb-false}
 use Rattle.scribble.specs.Refusals.{Fault, blame, fault_when, Finding, faulty, deciding, soonest}
+use Rattle.std.proofs.Common.{Option, None, Some}
+use native.Mathlib.Bridge.{le_prop}
+use mathlib.Core.HLevel.{is_prop→PathP}
+use Rattle.std.specs.declared.num.NonZeroU8.{NonZeroU8}
+use Rattle.scribble.specs.declared.faults.Fault.{Fault as Code}
 use Rattle.scribble.specs.mirror.Least.{Blamed, finding_of, noted}
+use Rattle.scribble.specs.mirror.Blamed.{blamed_of}
 use Rattle.scribble.proofs.Meet.{meet, earlier, deciding_append}
 
 -- with a fault more, the finding is the earlier of the two
@@ -68,3 +74,16 @@ note_decides least test q n = by (Takes least.place least.number test q n) refl
         → KeepsSoonest least.place least.number test q n (cond t (record { place = q; number = n }) least).place (cond t (record { place = q; number = n }) least).number
     by true e = taken least.place least.number q n test e
     by false e = kept least.place least.number q n test e
+
+same_number : (m n : NonZeroU8) → m.value ≡ n.value → m ≡ n
+same_number m n p = λ i. record { value = p i; ok = is_prop→PathP (λ j. 0 < p j) (λ j. le_prop) m.ok n.ok i }
+
+-- THEOREM: no two answers of `faults::note` come to the same place and number, so what it promises says which it answers
+pub blamed_of-injective : (a b : Option Code) → blamed_of a ≡ blamed_of b → a ≡ b
+blamed_of-injective None None e = refl
+blamed_of-injective None (Some g) e = let n = ap (λ (b : Blamed). b.number) e in absurd (omega (arith, n, g.number.ok))
+blamed_of-injective (Some f) None e = let n = ap (λ (b : Blamed). b.number) e in absurd (omega (arith, n, f.number.ok))
+blamed_of-injective (Some f) (Some g) e =
+    let n = same_number f.number g.number (ap (λ (b : Blamed). b.number) e) in
+    let p = ap (λ (b : Blamed). b.place) e in
+    λ i. Some (record { place = p i; number = n i })

@@ -14,14 +14,14 @@ use Rattle.scribble.specs.Names.{firsts, spelled}
 use Rattle.scribble.specs.Meaning.{roles_of, labels_in}
 use Rattle.scribble.specs.Refusals.{Fault, blame, fault_when, sooner, soonest, deciding, Finding, faultless, faulty, shown_before, faults_of, too_long_among, listed_twice, too_many, unknown_role, name_faults, name_faults_in, name_faults_among, last_faults, last_faults_in, last_faults_among, Beginning, other_start, message_start, beginning_in, wrong_start, choice_faults, choice_faults_in, choice_faults_among, rows_met, rows_met_in, rows_met_among, start_of, TEXT, LAST, MANY, too_long, faults21, faults22, faults23, faults24}
 use Rattle.scribble.specs.Outcome.{ReadAs, whole, cut}
-use Rattle.words.proofs.Below.{and_both}
+use Rattle.std.proofs.lemmas.Bool.{and_parts}
 
 -- 20 to 24
 abbrev pub InRange : ℕ → Type 0
 InRange n = leb TEXT n && leb n MANY ≡ true
 
 pub in_range : (n : ℕ) → InRange n → (TEXT ≤ n) × (n ≤ MANY)
-in_range n r = let k = and_both (leb TEXT n) (leb n MANY) r in (leb-true TEXT n k.0, leb-true n MANY k.1)
+in_range n r = let k = and_parts (leb TEXT n) (leb n MANY) r in (leb-true TEXT n k.0, leb-true n MANY k.1)
 
 -- faults with such numbers; which faults a text has, and where, plays no part here
 data Ranged : List Fault → Type 0 where

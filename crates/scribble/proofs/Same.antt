@@ -1,15 +1,17 @@
 -- Names that are written the same are the same, and a known name has its number for itself. Assumes nothing.
-use Prim.Native.Nat.{ℕ, suc, ◌<◌}
+use Prim.Native.Nat.{ℕ, suc, ◌<◌, ◌≤◌}
 use mathlib.Core.Bool.{Bool, true, false, true≢false, cond}
 use mathlib.Core.List.{List, [], ◌∷◌}
 use mathlib.Core.Path.{◌≡◌, refl, sym, ◌∙◌, ap, ap₂}
 use native.Mathlib.Omega.{arith}
-use lib.Dec.{eqb}
+use lib.Dec.{eqb, ltb}
+use Rattle.std.proofs.Common.{Some, None}
+use Rattle.std.specs.Option.{unwrap_or}
 use lib.ListN.{length}
-use borrow.Author.Tests.{ltb-true, eqb-true, eq-eqb, ne_eqb}
-use Rattle.words.proofs.Below.{and_both}
+use borrow.Author.Tests.{ltb-true, ltb-false, eqb-true, eq-eqb, ne_eqb}
+use Rattle.std.proofs.lemmas.Bool.{and_parts}
 use Rattle.scribble.specs.Tokens.{spelled_alike}
-use Rattle.scribble.specs.Names.{is_in, index_of}
+use Rattle.scribble.specs.Names.{is_in, index_of, number_of}
 
 pub same_self : (x : List ℕ) → spelled_alike x x ≡ true
 unfolding spelled_alike
@@ -22,7 +24,7 @@ same_true [] [] e = refl
 same_true [] (c ∷ cs) e = absurd (true≢false (sym e))
 same_true (b ∷ bs) [] e = absurd (true≢false (sym e))
 same_true (b ∷ bs) (c ∷ cs) e =
-    let k = and_both (eqb b c) (spelled_alike bs cs) e in
+    let k = and_parts (eqb b c) (spelled_alike bs cs) e in
     ap₂ (λ (z : ℕ) (zs : List ℕ). z ∷ zs) (eqb-true b c k.0) (same_true bs cs k.1)
 
 -- no other name has the number of a known one
@@ -48,3 +50,21 @@ numbers_compare a b ns k = by (spelled_alike a b) refl
     by false e =
         ne_eqb (index_of a ns) (index_of b ns)
         (λ i. true≢false (sym (same_self b) ∙ (ap (λ (x : List ℕ). spelled_alike x b) (sym (number_one a b ns (ltb-true (index_of b ns) (length ns) k) i)) ∙ e)))
+
+index_inside : (s : List ℕ) (ns : List (List ℕ)) → index_of s ns ≤ length ns
+unfolding index_of
+index_inside s [] = omega arith
+index_inside s (n ∷ ns) = by (index_inside s ns) (spelled_alike n s)
+  where
+    by : index_of s ns ≤ length ns → (t : Bool) → cond t 0 (suc (index_of s ns)) ≤ suc (length ns)
+    by l true = omega arith
+    by l false = omega arith
+
+-- THEOREM: the number that `names::find` answers, or how many names there are where it answers none, is how many names stand before the first that is written alike
+pub number_of_index : (s : List ℕ) (ns : List (List ℕ)) → unwrap_or (number_of s ns) (length ns) ≡ index_of s ns
+unfolding is_in
+number_of_index s ns = by (ltb (index_of s ns) (length ns)) refl
+  where
+    by : (t : Bool) → ltb (index_of s ns) (length ns) ≡ t → unwrap_or (cond t (Some (index_of s ns)) None) (length ns) ≡ index_of s ns
+    by true e = refl
+    by false e = let l = ltb-false (index_of s ns) (length ns) e in let m = index_inside s ns in omega arith

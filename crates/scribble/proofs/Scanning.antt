@@ -38,20 +38,6 @@ name_length_front (b ∷ bs) = by (name_length_front bs) (in_name b)
     by e true = omega arith
     by e false = refl
 
--- one byte more of a name
-pub name_more : (bs : List ℕ) (i : ℕ) → in_name (get_or bs i 0) ≡ true → i + name_length (drop i bs) ≡ (i + 1) + name_length (drop (i + 1) bs)
-unfolding name_length
-name_more bs i e = rw (drop-cons bs i 0 (name_inside bs i e), e, add-one i) (omega arith)
-
--- the name is over
-pub name_over : (bs : List ℕ) (i : ℕ) → in_name (get_or bs i 0) ≡ false → i ≡ i + name_length (drop i bs)
-unfolding name_length
-name_over bs i e = go (ltb i (length bs)) refl
-  where
-    go : (t : Bool) → ltb i (length bs) ≡ t → i ≡ i + name_length (drop i bs)
-    go true l = rw (drop-cons bs i 0 (ltb-true i (length bs) l), e) (omega arith)
-    go false l = rw (drop_of_length-le bs (ltb-false i (length bs) l)) (omega arith)
-
 -- a gap
 slash_at : (bs : List ℕ) (j : ℕ) → slash (drop j bs) ≡ eqb (get_or bs j 0) 47
 slash_at bs j = go (ltb j (length bs)) refl

@@ -10,11 +10,6 @@ name_from text a = take (name_length (drop a text)) (drop a text)
 abbrev pub names_from : List ℕ → List ℕ → List (List ℕ)
 names_from text starts = map (λ a. name_from text a) starts
 
--- the same byte of a name stands at both places
-unfoldable pub same_byte : List ℕ → ℕ → List ℕ → ℕ → Bool
-unfolding in_name
-same_byte one i other j = in_name (get_or one i 0) && eqb (get_or one i 0) (get_or other j 0)
-
 -- both are the same byte of a name
 abbrev pub shared : ℕ × ℕ → Bool
 shared p = eqb p.0 p.1 && in_name p.0
