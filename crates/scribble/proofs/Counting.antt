@@ -1,17 +1,12 @@
 -- Names among names, one by one; the bytes of a name; the newlines before a place. Assumes nothing.
-use Prim.Native.Nat.{ℕ, suc, ◌+◌, ◌≤◌, ◌<◌}
-use mathlib.Core.Bool.{Bool, true, false, true≢false, not, cond, ◌&&◌}
+use Prim.Native.Nat.{ℕ, suc, ◌+◌, ◌≤◌}
+use mathlib.Core.Bool.{Bool, true, false, not, cond}
 use mathlib.Core.List.{List, [], ◌∷◌}
 use mathlib.Core.Path.{◌≡◌, refl, ◌∙◌, ap}
 use native.Mathlib.Omega.{arith}
-use native.Mathlib.Numerals.{add-one}
-use lib.Dec.{ltb, eqb}
-use borrow.Author.Tests.{ltb-true, ltb-false}
-use Rattle.std.proofs.lemmas.Bool.{and_parts}
-use lib.ListN.{length, length-map, take, drop, get_or, length-take, drop_of_length-le}
-use lib.Seq.{drop-cons, get_or-take}
-use Rattle.std.proofs.Common.{Some, None}
-use Rattle.std.specs.List.{filter, position_or_len}
+use lib.Dec.{eqb}
+use lib.ListN.{length, length-map, drop, length-take}
+use Rattle.std.specs.List.{filter, position, position_or_len}
 use Rattle.scribble.specs.Tokens.{spelled_alike, in_name, name_length, newlines}
 use Rattle.scribble.specs.Names.{index_of, is_in, number_of}
 use Rattle.scribble.specs.mirror.Starts.{name_from, names_from}
@@ -54,8 +49,6 @@ index_of_names text s (x ∷ xs) = by (index_of_names text s xs) (spelled_alike 
     by e true = refl
     by e false = omega arith
 
-pub number_of_names : (text s xs : List ℕ)
-    → number_of s (names_from text xs)
-    ≡ cond (ltb (position_or_len (λ x. spelled_alike (name_from text x) s) xs) (length xs)) (Some (position_or_len (λ x. spelled_alike (name_from text x) s) xs)) None
+pub number_of_names : (text s xs : List ℕ) → number_of s (names_from text xs) ≡ position (λ x. spelled_alike (name_from text x) s) xs
 unfolding is_in
 number_of_names text s xs = rw (index_of_names text s xs, length-map)

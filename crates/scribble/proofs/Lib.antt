@@ -1,11 +1,11 @@
--- The laws of request K1. The theorems, and where they stand:
+-- The laws of reading the suppliers' texts. The theorems, and where they stand:
 --   Stated.reading_holds        all that specs/Stated says of reading, for any limits; made of the next five
 --   Unique.one_text             the tokens of a text have one syntax tree
 --   Answering.read_means        what the reader of specs/mirror/Reader answers is what specs/Outcome says comes back
 --   Single.one_answer           any two answers for a text are equal
 --   Accepted.accepted, accepts  accepted exactly when of the grammar, without fault, and the table fits; the table stands for what the text says
 --   Accepted.numbers, writes_nothing    the number is 0, 3 or 20 to 24; a refusal writes nothing
---   Standing.laid_stands        the rows of a protocol's tree, read as a table, are that tree (request K12 uses it)
+--   Standing.laid_stands        the rows of a protocol's tree, read as a table, are that tree
 --   Examples.examples_hold      the texts of specs/Examples come to what is said there
 -- What the code's reader will cite beside these:
 --   Agree.run_text              the reader does with the tokens of a tree what the tree says

@@ -75,6 +75,18 @@ note_decides least test q n = by (Takes least.place least.number test q n) refl
     by true e = taken least.place least.number q n test e
     by false e = kept least.place least.number q n test e
 
+abbrev pub found : Blamed → Finding
+found least = finding_of least.place least.number
+
+-- the place beside number 0 says nothing: whatever it is, the same is found with one fault more
+pub noted_none : (p place number : ℕ) (test : Bool) → found (noted (record { place = p; number = 0 }) test place number) ≡ found (noted (record { place = 0; number = 0 }) test place number)
+unfolding noted
+noted_none p place number test = by (ltb 0 number && test) (record { place = place; number = number }) (record { place = p; number = 0 }) (record { place = 0; number = 0 }) refl
+  where
+    by : (t : Bool) (met a b : Blamed) → found a ≡ found b → found (cond (t && true) met a) ≡ found (cond (t && true) met b)
+    by true met a b e = refl
+    by false met a b e = e
+
 same_number : (m n : NonZeroU8) → m.value ≡ n.value → m ≡ n
 same_number m n p = λ i. record { value = p i; ok = is_prop→PathP (λ j. 0 < p j) (λ j. le_prop) m.ok n.ok i }
 

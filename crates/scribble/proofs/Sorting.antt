@@ -9,7 +9,7 @@ use Rattle.std.proofs.Common.{Option, None, Some, Bor, map}
 use Rattle.std.specs.List.{find}
 use Rattle.std.specs.Str.{bytes_eq}
 use Rattle.scribble.specs.declared.token.Sort.{Sort as Code}
-use Rattle.scribble.specs.Tokens.{Sort, a_name, sort_number, spelled_alike, other_byte, in_name, Reserved, reserved_sort, sort_of}
+use Rattle.scribble.specs.Tokens.{Sort, a_name, spelled_alike, other_byte, in_name, Reserved, reserved_sort, sort_of}
 use Rattle.scribble.specs.mirror.Scan.{mark_of, keyword_of}
 use Rattle.scribble.specs.mirror.Sorts.{sort_meant, reserved_as}
 
@@ -57,13 +57,13 @@ abbrev pub entry_sort : Option (Bor (List ℕ) × Code) → Sort
 entry_sort None = a_name
 entry_sort (Some k) = sort_meant k.1
 
-pub reserved_sort_find : (table : List (Bor (List ℕ) × Code)) (s : List ℕ) → entry_sort (find (λ k. bytes_eq k.0.now s) table) ≡ reserved_sort (entries table) a_name s
+pub reserved_sort_find : (table : List (Bor (List ℕ) × Code)) (s : List ℕ) → reserved_sort (entries table) a_name s ≡ entry_sort (find (λ k. bytes_eq k.0.now s) table)
 unfolding reserved_sort
 reserved_sort_find [] s = refl
 reserved_sort_find (k ∷ ks) s = rw (spelled_alike_bytes k.0.now s) (by (reserved_sort_find ks s) (bytes_eq k.0.now s))
   where
-    by : entry_sort (find (λ k'. bytes_eq k'.0.now s) ks) ≡ reserved_sort (entries ks) a_name s
-        → (t : Bool) → entry_sort (cond t (Some k) (find (λ k'. bytes_eq k'.0.now s) ks)) ≡ cond t (sort_meant k.1) (reserved_sort (entries ks) a_name s)
+    by : reserved_sort (entries ks) a_name s ≡ entry_sort (find (λ k'. bytes_eq k'.0.now s) ks)
+        → (t : Bool) → cond t (sort_meant k.1) (reserved_sort (entries ks) a_name s) ≡ entry_sort (cond t (Some k) (find (λ k'. bytes_eq k'.0.now s) ks))
     by e true = refl
     by e false = e
 

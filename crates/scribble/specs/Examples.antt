@@ -1,4 +1,4 @@
--- Request K1 on small texts: what comes back for each, with its reason. That it does is proofs/Examples.examples_hold, one computation. Assumes nothing.
+-- Small texts: what comes back for each, with its reason. That it does is proofs/Examples.examples_hold, one computation. Assumes nothing.
 use Rattle.std.specs.Prelude.{ℕ, List, [], ◌∷◌}
 use Prim.Native.String.{String}
 use Rattle.table.specs.Limits.{Limits, base}
@@ -14,7 +14,7 @@ pub record Example : Type 0 where
   pub lines : List String
   pub outcome : TextOutcome
 
--- with document 01's limits and room for the longest table
+-- with the limits of the customer's paper and room for the longest table
 abbrev reads : List String → TextOutcome → Example
 reads ls a = record { limits = base; room = 1024; lines = ls; outcome = a }
 
@@ -152,7 +152,7 @@ another =
     ∷ [])
     (refused_text TEXT 3)
 
--- 20: a type line, which document 002 has, stands where the protocol is wanted; so do `sig`, `import` and `aux`
+-- 20: a type line, which the suppliers' notation has, stands where the protocol is wanted; so do `sig`, `import` and `aux`
 abbrev type_line : Example
 type_line =
     reads

@@ -1,4 +1,4 @@
--- Request K1: 'The grammar is written on its own.' A relation says which tokens make a text, and which syntax tree they stand for; it knows of no reader.
+-- 'The grammar is written on its own.' A relation says which tokens make a text, and which syntax tree they stand for; it knows of no reader.
 --
 --   text     = module name { . name } ;  global protocol name ( role name { , role name } ) block  end of the text
 --   block    = { { message | choice | rec | continue } }

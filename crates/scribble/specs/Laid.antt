@@ -1,4 +1,4 @@
--- Request K1: 'Rows are numbered in the order met: exchange, arm, continuation, next arm.' The rows of a protocol's tree, as document 01 has them in 'The global table'.
+-- 'Rows are numbered in the order met: exchange, arm, continuation, next arm.' The rows of a protocol's tree, as the customer's paper has them in 'The global table'.
 -- That the table so laid stands for the tree again is proofs/Standing.laid_stands. Assumes nothing.
 use Rattle.std.specs.Prelude.{ℕ, suc, ◌+◌, List, [], ◌∷◌, ◌++◌, ◌≢◌}
 use Rattle.table.specs.Tree.{Global, end, exchange, flight, loop, back, Arms, nil, arm, rows_in}

@@ -1,4 +1,4 @@
--- Request K1: the protocol that a text says, and its table. All by recursion on the syntax tree; a text with faults has a meaning too, and it is not handed out. Assumes nothing.
+-- The protocol that a text says, and its table. All by recursion on the syntax tree; a text with faults has a meaning too, and it is not handed out. Assumes nothing.
 use Rattle.std.specs.Prelude.{ℕ, List, [], ◌∷◌, ◌++◌}
 use Rattle.table.specs.Tree.{Global, end, exchange, flight, loop, back, Arms, nil, arm}
 use Rattle.scribble.specs.Grammar.{Name, Stmt, message, choice, recursion, continue, Block, ends, then, Blocks, no_more, or, SyntaxTree, protocol}

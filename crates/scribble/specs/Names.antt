@@ -1,4 +1,4 @@
--- Request K1: names of a text. They are the same when they are written alike; roles number as listed, labels by first appearance. Assumes nothing.
+-- Names of a text. They are the same when they are written alike; roles number as listed, labels by first appearance. Assumes nothing.
 use Rattle.std.specs.Prelude.{ℕ, suc, Bool, cond, Option, None, Some, List, [], ◌∷◌, ◌++◌, map, ltb, length}
 use Rattle.scribble.specs.Tokens.{spelled_alike}
 use Rattle.scribble.specs.Grammar.{Name, name_at}

@@ -1,4 +1,4 @@
--- Request K1: what comes back for a text. No reader is named here: the tokens make a text of the grammar, or a first one stands where no text of the grammar goes on.
+-- What comes back for a text. No reader is named here: the tokens make a text of the grammar, or a first one stands where no text of the grammar goes on.
 -- That every text has an answer, and one only, is proofs/Answering.antt and proofs/Single.antt. Assumes nothing.
 use Rattle.std.specs.Prelude.{ℕ, true, false, cond, List, [], ◌∷◌, ◌++◌, ◌≡◌, ltb, length, drop}
 use Rattle.table.specs.Limits.{Limits}

@@ -1,4 +1,4 @@
--- Request K1: the faults of a syntax tree, 21 to 24, each with its place as reading 19 has it, and the one that decides. 20 TEXT is no fault of a tree: Outcome.antt. Assumes nothing.
+-- The faults of a syntax tree, 21 to 24, each with its place as the grammar is read, and the one that decides. 20 TEXT is no fault of a tree: Outcome.antt. Assumes nothing.
 use Rattle.std.specs.Prelude.{ℕ, Bool, true, false, cond, not, ◌&&◌, ◌||◌, List, [], ◌∷◌, ◌++◌, ltb, eqb, length, drop}
 use Rattle.table.specs.Limits.{Limits}
 use Rattle.scribble.specs.Tokens.{spelled_alike}

@@ -1,4 +1,4 @@
--- Request K1: what is proved of reading, for any limits; the proof is proofs/Stated.reading_holds. Assumes nothing.
+-- What is proved of reading a text, for any limits; the proof is proofs/Stated.reading_holds. Assumes nothing.
 use Rattle.std.specs.Prelude.{ℕ, ◌≤◌, List, [], ◌≢◌, ◌≡◌, length}
 use Rattle.table.specs.Limits.{Limits}
 use Rattle.table.specs.Numbers.{ACCEPTED, ROOM}

@@ -1,5 +1,5 @@
--- Request K1: the words of a text. Document 02 says 'word' both of a text and of a table; here a word of a text is a token, and a word is one of a table's numbers.
--- Reading 18: white space is free, `//` comments are skipped, names are letters, digits and `_` in any order, keywords are reserved. Assumes nothing.
+-- The words of a text. The customer says 'word' both of a text and of a table; here a word of a text is a token, and a word is one of a table's numbers.
+-- As the customer's grammar is read: white space is free, `//` comments are skipped, names are letters, digits and `_` in any order, keywords are reserved. Assumes nothing.
 use Rattle.std.specs.Prelude.{ℕ, zero, suc, ◌+◌, Bool, true, false, cond, ◌&&◌, ◌||◌, List, [], ◌∷◌, leb, eqb, length, take, drop}
 use Prim.Native.Char.{Char}
 use Rattle.scribble.specs.Ascii.{byte_of, ascii}

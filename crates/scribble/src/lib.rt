@@ -1,4 +1,4 @@
-// The suppliers' Scribble text (request K1): its words, its names, the fault that decides.
+// The suppliers' Scribble texts, which are read as protocols: their words, their names, the fault that decides.
 #![tactic(auto)]
 
 pub mod faults;

@@ -9,7 +9,7 @@ ghost use Rattle.scribble.specs.mirror.Starts.{name_from, names_from, shared};
 use crate::scan;
 
 // The name at `at`: no bytes where no name stands there.
-#[tactic(auto, unfolding(crate::specs::mirror::Starts::name_from))]
+#[tactic(auto, unfolding(crate::specs::mirror::Starts::name_from), using(crate::proofs::Scanning::name_length_front))]
 pub(crate) fn name(text: &[u8], at: usize) -> &[u8]
     ensures { result.now ≡ name_from text.now at }
 {
@@ -28,7 +28,7 @@ fn shared(one: &[u8], other: &[u8]) -> usize
 }
 
 // The name at place a of the one text and the name at place b of the other are written alike: both end behind the bytes that they share. No byte is read behind the first that differs.
-#[tactic(auto, unfolding(crate::specs::mirror::Starts::name_from), using(crate::proofs::Naming::alike_front))]
+#[tactic(auto, unfolding(crate::specs::mirror::Starts::name_from), using(crate::proofs::Naming::spelled_alike_front))]
 pub fn same(one: &[u8], a: usize, other: &[u8], b: usize) -> bool
     ensures { result ≡ spelled_alike (name_from one.now a) (name_from other.now b) }
 {

@@ -1,5 +1,6 @@
 // The words of a text: where the next one starts and ends, and what it is.
 ghost use Rattle.std.specs.Prelude.{◌≡◌, ◌≤◌, ◌+◌, length, drop, get_or};
+ghost use Rattle.std.specs.List.{prefix_len};
 ghost use Rattle.scribble.specs.Tokens.{is_blank, in_name, gap, name_length};
 ghost use Rattle.scribble.specs.mirror.Scan.{goes_on, in_comment};
 
@@ -35,13 +36,14 @@ pub(crate) fn rest(text: &[u8], at: usize) -> &[u8]
 
 // How many bytes of a name stand at the front.
 pub(crate) fn name_length(bytes: &[u8]) -> usize
-    ensures count { result ≡ name_length bytes.now }
+    ensures count { result ≡ prefix_len in_name bytes.now }
     ensures inside { result ≤ length bytes.now }
 {
     bytes.iter().take_while(|b| in_name(**b)).count()
 }
 
 // The end of the name at `at`; `at` where no name stands there.
+#[tactic(auto, using(crate::proofs::Scanning::name_length_front))]
 pub fn name_end(text: &[u8], at: usize) -> usize
     ensures { result ≡ at + name_length (drop at text.now) }
 {

@@ -1,5 +1,5 @@
 -- Names by the places where they start. Assumes nothing.
-use Rattle.std.specs.Prelude.{ℕ, Bool, ◌&&◌, List, map, eqb, take, drop, get_or}
+use Rattle.std.specs.Prelude.{ℕ, Bool, ◌&&◌, List, map, eqb, take, drop}
 use Rattle.scribble.specs.Tokens.{in_name, name_length}
 
 -- the name that starts there; none where no name does

@@ -12,5 +12,5 @@ unfolding line_of
 returns c =
     let a = c.args in
     let e : c.count.result ≡ length (filter (λ b. nat_eq b 10) (take a.at a.text.now)) =
-        count_from_yields_List _ _ c.count.ensures.ran (YieldsList-from_filter _ (λ b. nat_eq b 10) (YieldsList-at c.filter.ensures.source (YieldsList-from_take a.at (YieldsList-from_slice a.text.now cc) c.take.ensures.count)) c.filter.ensures.closure (λ x b q k. search (rules, tests))) in
+    count_from_yields_List _ _ c.count.ensures.ran (YieldsList-from_filter _ (λ b. nat_eq b 10) (YieldsList-at c.filter.ensures.source (YieldsList-from_take a.at (YieldsList-from_slice a.text.now cc) c.take.ensures.count)) c.filter.ensures.closure (λ x b q k. search (rules, tests))) in
     rw newlines_lem (omega arith)
