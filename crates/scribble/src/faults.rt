@@ -13,6 +13,7 @@ pub struct Fault {
 }
 
 // One fault more, where the test holds and the number is not 0.
+// kept: a test and a plain number beside the place, since `note` promises its answer at number 0 too, which no `Fault` has.
 #[tactic(auto, unfolding(crate::specs::mirror::Least::noted))]
 pub fn note(least: Option<Fault>, test: bool, place: usize, number: u8) -> Option<Fault>
     ensures { blamed_of result ≡ noted (blamed_of least) test place number }
