@@ -9,23 +9,16 @@ use Rattle.std.proofs.Common.{Some, None}
 use Rattle.std.specs.Option.{unwrap_or}
 use lib.ListN.{length}
 use borrow.Author.Tests.{ltb-true, ltb-false, eqb-true, eq-eqb, ne_eqb}
-use Rattle.std.proofs.lemmas.Bool.{and_parts}
+use Rattle.std.proofs.lemmas.Slice.Eq.{bytes_eq-Decides}
+use Rattle.scribble.proofs.Sorting.{spelled_alike_bytes}
 use Rattle.scribble.specs.Tokens.{spelled_alike}
 use Rattle.scribble.specs.Names.{is_in, index_of, number_of}
 
 pub same_self : (x : List ℕ) → spelled_alike x x ≡ true
-unfolding spelled_alike
-same_self [] = refl
-same_self (b ∷ bs) = rw (eq-eqb b b refl) (same_self bs)
+same_self x = spelled_alike_bytes x x ∙ (bytes_eq-Decides x x).1 refl
 
 pub same_true : (x y : List ℕ) → spelled_alike x y ≡ true → x ≡ y
-unfolding spelled_alike
-same_true [] [] e = refl
-same_true [] (c ∷ cs) e = absurd (true≢false (sym e))
-same_true (b ∷ bs) [] e = absurd (true≢false (sym e))
-same_true (b ∷ bs) (c ∷ cs) e =
-    let k = and_parts (eqb b c) (spelled_alike bs cs) e in
-    ap₂ (λ (z : ℕ) (zs : List ℕ). z ∷ zs) (eqb-true b c k.0) (same_true bs cs k.1)
+same_true x y e = (bytes_eq-Decides x y).0 (sym (spelled_alike_bytes x y) ∙ e)
 
 -- no other name has the number of a known one
 number_one : (a b : List ℕ) (ns : List (List ℕ)) → index_of b ns < length ns → index_of a ns ≡ index_of b ns → a ≡ b

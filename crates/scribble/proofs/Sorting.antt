@@ -4,7 +4,9 @@ use mathlib.Core.Bool.{Bool, true, false, true≢false, cond, ◌&&◌, and-fals
 use mathlib.Core.List.{List, [], ◌∷◌}
 use mathlib.Core.Path.{◌≡◌, refl, sym, ◌∙◌, ap}
 use lib.Dec.{eqb}
-use borrow.Author.Tests.{eqb-true, ne_eqb}
+use borrow.Author.Tests.{ne_eqb}
+use Rattle.std.proofs.Common.{arith}
+use Rattle.std.proofs.lemmas.Bool.Decides.{nat_tests}
 use Rattle.std.proofs.Common.{Option, None, Some, Bor, map}
 use Rattle.std.specs.List.{find}
 use Rattle.std.specs.Str.{bytes_eq}
@@ -15,11 +17,7 @@ use Rattle.scribble.specs.mirror.Sorts.{sort_meant, reserved_as}
 
 -- a byte that no name has is none of a name's
 no_mark : (m b : ℕ) → in_name m ≡ false → in_name b ≡ true → eqb m b ≡ false
-no_mark m b p q = by (eqb m b) refl
-  where
-    by : (t : Bool) → eqb m b ≡ t → t ≡ false
-    by true e = absurd (true≢false (sym q ∙ (ap in_name (sym (eqb-true m b e)) ∙ p)))
-    by false e = refl
+no_mark m b p q = ne_eqb m b (λ e. true≢false (sym q ∙ (ap in_name (sym e) ∙ p)))
 
 -- a name is no mark
 pub sort_name : (b : ℕ) (bs : List ℕ) → in_name b ≡ true → sort_of (b ∷ bs) ≡ keyword_of (b ∷ bs)
@@ -41,7 +39,8 @@ pub sort_mark : (b : ℕ) → in_name b ≡ false → sort_of (b ∷ []) ≡ mar
 unfolding sort_of mark_of reserved_sort spelled_alike
 sort_mark b e = simp (and-false, and-true, e)
 
-spelled_alike_bytes : (xs ys : List ℕ) → spelled_alike xs ys ≡ bytes_eq xs ys
+-- names are compared as bytes are
+pub spelled_alike_bytes : (xs ys : List ℕ) → spelled_alike xs ys ≡ bytes_eq xs ys
 unfolding spelled_alike
 spelled_alike_bytes [] [] = refl
 spelled_alike_bytes [] (y ∷ ys) = refl
@@ -67,10 +66,7 @@ reserved_sort_find (k ∷ ks) s = rw (spelled_alike_bytes k.0.now s) (by (reserv
     by e true = refl
     by e false = e
 
-not_it : (m b : ℕ) → (b ≡ m → ⊥) → eqb m b ≡ false
-not_it m b n = ne_eqb m b (λ e. n (sym e))
-
 -- none of the seven marks
 pub no_mark_at_all : (b : ℕ) → (b ≡ 123 → ⊥) → (b ≡ 125 → ⊥) → (b ≡ 40 → ⊥) → (b ≡ 41 → ⊥) → (b ≡ 44 → ⊥) → (b ≡ 59 → ⊥) → (b ≡ 46 → ⊥) → mark_of b ≡ other_byte
 unfolding mark_of
-no_mark_at_all b n₁ n₂ n₃ n₄ n₅ n₆ n₇ = rw (not_it 123 b n₁, not_it 125 b n₂, not_it 40 b n₃, not_it 41 b n₄, not_it 44 b n₅, not_it 59 b n₆, not_it 46 b n₇)
+no_mark_at_all b n₁ n₂ n₃ n₄ n₅ n₆ n₇ = grind (arith, nat_tests)
