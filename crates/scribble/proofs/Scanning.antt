@@ -1,6 +1,6 @@
 -- Names and gaps, byte by byte. Assumes nothing.
 use Prim.Native.Nat.{ℕ, suc, ◌+◌, ◌≤◌, ◌<◌}
-use mathlib.Core.Bool.{Bool, true, false, cond, ◌&&◌, ◌||◌}
+use mathlib.Core.Bool.{Bool, true, false, true≢false, cond, ◌&&◌, ◌||◌}
 use mathlib.Core.List.{List, [], ◌∷◌}
 use mathlib.Core.Path.{◌≡◌, refl, sym, ◌∙◌, ap}
 use native.Mathlib.Numerals.{add-one}
@@ -20,10 +20,7 @@ inside p bs i none e = go (ltb i (length bs)) refl
     go : (t : Bool) → ltb i (length bs) ≡ t → i < length bs
     go true l = ltb-true i (length bs) l
     go false l =
-        let d = get_or-eq_default bs 0 (ltb-false i (length bs) l) in
-        let x : true ≡ false = sym e ∙ (ap p d ∙ none) in
-        let z : ◌≡◌ {A = ℕ} 0 1 = cc in
-        omega arith
+        absurd (true≢false (sym e ∙ (ap p (get_or-eq_default bs 0 (ltb-false i (length bs) l)) ∙ none)))
 
 pub name_inside : (bs : List ℕ) (i : ℕ) → in_name (get_or bs i 0) ≡ true → i < length bs
 name_inside bs i e = inside (λ b. in_name b) bs i (unfold in_name in refl) e
@@ -39,21 +36,9 @@ name_length_front (b ∷ bs) = by (name_length_front bs) (in_name b)
     by e false = refl
 
 -- a gap
-slash_at : (bs : List ℕ) (j : ℕ) → slash (drop j bs) ≡ eqb (get_or bs j 0) 47
-slash_at bs j = go (ltb j (length bs)) refl
-  where
-    go : (t : Bool) → ltb j (length bs) ≡ t → slash (drop j bs) ≡ eqb (get_or bs j 0) 47
-    go true l = rw (drop-cons bs j 0 (ltb-true j (length bs) l))
-    go false l = rw (drop_of_length-le bs (ltb-false j (length bs) l), get_or-eq_default bs 0 (ltb-false j (length bs) l))
-
 pub goes_past : (r : Bool) (bs : List ℕ) (i : ℕ) → length bs ≤ i → goes_on r (drop i bs) ≡ false
 unfolding goes_on
 goes_past r bs i l = rw (drop_of_length-le bs l)
-
-pub goes_at : (r : Bool) (bs : List ℕ) (i : ℕ) → i < length bs
-    → goes_on r (drop i bs) ≡ r || is_blank (get_or bs i 0) || (eqb (get_or bs i 0) 47 && eqb (get_or bs (i + 1) 0) 47)
-unfolding goes_on
-goes_at r bs i l = rw (drop-cons bs i 0 l, ← (add-one i), slash_at bs (i + 1))
 
 pub goes_inside : (r : Bool) (bs : List ℕ) (i : ℕ) → goes_on r (drop i bs) ≡ true → i < length bs
 goes_inside r bs i e = go (ltb i (length bs)) refl
@@ -61,9 +46,7 @@ goes_inside r bs i e = go (ltb i (length bs)) refl
     go : (t : Bool) → ltb i (length bs) ≡ t → i < length bs
     go true l = ltb-true i (length bs) l
     go false l =
-        let x : true ≡ false = sym e ∙ goes_past r bs i (ltb-false i (length bs) l) in
-        let z : ◌≡◌ {A = ℕ} 0 1 = cc in
-        omega arith
+        absurd (true≢false (sym e ∙ goes_past r bs i (ltb-false i (length bs) l)))
 
 -- one byte more of a gap
 gap_byte : (r t u : Bool) (b : ℕ) (bs : List ℕ) → eqb b 10 ≡ t → is_blank b ≡ u → goes_on r (b ∷ bs) ≡ true
@@ -78,11 +61,11 @@ gap_none : (r : Bool) (bs : List ℕ) → goes_on r bs ≡ false → gap_left r 
 unfolding goes_on gap_left gap
 gap_none true [] e = refl
 gap_none false [] e = refl
-gap_none true (b ∷ bs) e = let z : ◌≡◌ {A = ℕ} 0 1 = cc in omega arith
+gap_none true (b ∷ bs) e = absurd (true≢false e)
 gap_none false (b ∷ bs) e = go (is_blank b) refl e
   where
     go : (u : Bool) → is_blank b ≡ u → is_blank b || (eqb b 47 && slash bs) ≡ false → gap (b ∷ bs) ≡ 0
-    go true f g = let z : true ≡ false = rw f at g in let y : ◌≡◌ {A = ℕ} 0 1 = cc in omega arith
+    go true f g = absurd (true≢false (rw f at g))
     go false f g = rw (f, rw f at g)
 
 pub gap_more : (r : Bool) (bs : List ℕ) (i : ℕ) → goes_on r (drop i bs) ≡ true

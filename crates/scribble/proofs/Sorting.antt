@@ -5,13 +5,11 @@ use mathlib.Core.List.{List, [], ◌∷◌}
 use mathlib.Core.Path.{◌≡◌, refl, sym, ◌∙◌, ap}
 use lib.Dec.{eqb}
 use borrow.Author.Tests.{ne_eqb}
-use Rattle.std.proofs.Common.{arith}
-use Rattle.std.proofs.lemmas.Bool.Decides.{nat_tests}
 use Rattle.std.proofs.Common.{Option, None, Some, Bor, map}
 use Rattle.std.specs.List.{find}
 use Rattle.std.specs.Str.{bytes_eq}
 use Rattle.scribble.specs.declared.token.Sort.{Sort as Code}
-use Rattle.scribble.specs.Tokens.{Sort, a_name, spelled_alike, other_byte, in_name, Reserved, reserved_sort, sort_of}
+use Rattle.scribble.specs.Tokens.{Sort, a_name, spelled_alike, in_name, Reserved, reserved_sort, sort_of}
 use Rattle.scribble.specs.mirror.Scan.{mark_of, keyword_of}
 use Rattle.scribble.specs.mirror.Sorts.{sort_meant, reserved_as}
 
@@ -65,8 +63,3 @@ reserved_sort_find (k ∷ ks) s = rw (spelled_alike_bytes k.0.now s) (by (reserv
         → (t : Bool) → cond t (sort_meant k.1) (reserved_sort (entries ks) a_name s) ≡ entry_sort (cond t (Some k) (find (λ k'. bytes_eq k'.0.now s) ks))
     by e true = refl
     by e false = e
-
--- none of the seven marks
-pub no_mark_at_all : (b : ℕ) → (b ≡ 123 → ⊥) → (b ≡ 125 → ⊥) → (b ≡ 40 → ⊥) → (b ≡ 41 → ⊥) → (b ≡ 44 → ⊥) → (b ≡ 59 → ⊥) → (b ≡ 46 → ⊥) → mark_of b ≡ other_byte
-unfolding mark_of
-no_mark_at_all b n₁ n₂ n₃ n₄ n₅ n₆ n₇ = grind (arith, nat_tests)

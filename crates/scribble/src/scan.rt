@@ -51,7 +51,7 @@ pub fn name_end(text: &[u8], at: usize) -> usize
 }
 
 // A byte of white space or of a comment stands at i; `comment`: in a comment.
-#[tactic(auto, using(crate::proofs::Scanning::goes_at, crate::proofs::Scanning::goes_past))]
+#[tactic(auto, unfolding(crate::specs::mirror::Scan::goes_on))]
 fn goes_on(text: &[u8], i: usize, comment: bool) -> bool
     ensures { result ≡ goes_on comment (drop i text.now) }
 {

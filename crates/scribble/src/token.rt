@@ -40,7 +40,7 @@ pub struct Token {
 }
 
 // What a byte is that no name has.
-#[tactic(auto, unfolding(crate::specs::mirror::Scan::mark_of), using(crate::proofs::Sorting::no_mark_at_all))]
+#[tactic(auto, unfolding(crate::specs::mirror::Scan::mark_of))]
 fn mark(b: u8) -> Sort
     ensures { sort_meant result ≡ mark_of b }
 {
