@@ -16,7 +16,7 @@ one_at_most : (n widest : ℕ) (t : Bool) → leb n widest ≡ t → leb n wides
 one_at_most n widest true e = rw (e, lt-ltb n (widest + 1) (omega (arith, leb-true n widest e)))
 one_at_most n widest false e = rw (e, le-ltb n (widest + 1) (omega (arith, leb-false n widest e)))
 
-pub at_most : (widest : ℕ) (ns : List ℕ) → list_all (λ n. leb n widest) ns ≡ all_below (widest + 1) ns
+at_most : (widest : ℕ) (ns : List ℕ) → list_all (λ n. leb n widest) ns ≡ all_below (widest + 1) ns
 unfolding all_below
 at_most widest [] = refl
 at_most widest (n ∷ ns) = rw (one_at_most n widest (leb n widest) refl, at_most widest ns)

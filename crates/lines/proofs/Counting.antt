@@ -75,7 +75,7 @@ unfolding numbers_of well_formed
 means letter bs = read_line bs
 
 -- at the line's end its last number is stored
-pub line_read : (letter : ℕ) (bs old out out' : List ℕ) (at at' : ℕ) (p : Place) (i : ℕ) → length bs ≤ i → suc (length bs) ≤ length old
+line_read : (letter : ℕ) (bs old out out' : List ℕ) (at at' : ℕ) (p : Place) (i : ℕ) → length bs ≤ i → suc (length bs) ≤ length old
     → at' ≡ behind at (ended_of p 32) out → out' ≡ overlaid at (ended_of p 32) out → Left bs old out at p i
     → (at' ≡ length (numbers_of (letter ∷ bs))) × (out' ≡ overlaid 0 (numbers_of (letter ∷ bs)) old) × (whole_of p ≡ well_formed (letter ∷ bs))
 unfolding to_store last behind
@@ -107,7 +107,7 @@ pub too_long : (line old : List ℕ) → length old < length line → Read line 
 unfolding count_of
 too_long line old l = rw (lt-leb (length line) (length old) l) (refl, refl)
 
-pub line_answered : (line old out : List ℕ) (at : ℕ) (w : Bool) → length line ≤ length old → w ≡ well_formed line
+line_answered : (line old out : List ℕ) (at : ℕ) (w : Bool) → length line ≤ length old → w ≡ well_formed line
     → at ≡ length (numbers_of line) → out ≡ overlaid 0 (numbers_of line) old → Read line old (then_some w at) out
 unfolding count_of
 line_answered line old out at true l w e f = rw (le-leb (length line) (length old) l, ← w, e) (refl, f)

@@ -109,12 +109,6 @@ written at at' xs ys out out' e f =
       place = rw (long, e, length-append xs ys) (omega arith);
     }
 
--- one of xs is written
-pub one_written : (xs out out' : List ℕ) (at at' i : ℕ) → i < length xs
-    → at' ≡ behind at (get_or xs i 0 ∷ []) out → out' ≡ overlaid at (get_or xs i 0 ∷ []) out → Same out' at' (drop (i + 1) xs) out at (drop i xs)
-one_written xs out out' at at' i l e f =
-    rw (add-one i, drop-cons xs i 0 l) (written at at' (get_or xs i 0 ∷ []) (drop (suc i) xs) out out' e f)
-
 -- nothing is left
 pub all_written : (at at' : ℕ) (xs out old : List ℕ) → Same out at' [] old at xs → (at' ≡ behind at xs old) × (out ≡ overlaid at xs old)
 unfolding behind

@@ -13,7 +13,8 @@ use lib.Seq.{drop-cons}
 use Rattle.io.specs.Digits.{hex_digit_ascii, last_digits, IsDigitCount}
 use Rattle.lines.specs.Over.{overlaid, behind}
 use Rattle.lines.specs.Text.{digits_of, decimal, text_of}
-use Rattle.lines.proofs.Stores.{Same, then, written, all_written}
+use Rattle.lines.specs.Promises.{Puts, Writes}
+use Rattle.lines.proofs.Stores.{Same, then, written, all_written, nothing, length_over}
 
 small : (n : ℕ) → n < 10 → hex_digit_ascii (n % 10) ≡ 48 + n
 small n l =
@@ -50,40 +51,39 @@ unfolding decimal
 spelt_decimal n zero l f = absurd (omega (arith, f.0))
 spelt_decimal n (suc r) l f = sym (spelt 9 r n (omega arith) f)
 
--- what stands behind a number: a blank if another comes, else a newline
-abbrev pub mark : Bool → ℕ
-mark more = cond more 32 10
-
-more_left : (a b : ℕ) (t : Bool) → ltb a b ≡ t → ltb 0 (b - a) ≡ t
-more_left a b true e = lt-ltb 0 (b - a) (omega (arith, ltb-true a b e))
-more_left a b false e = le-ltb 0 (b - a) (omega (arith, ltb-false a b e))
-
-before : (n : ℕ) (rest : List ℕ) (t : Bool) → ltb 0 (length rest) ≡ t → decimal n ++ (mark t ∷ text_of rest) ≡ text_of (n ∷ rest)
+-- a number that is not the last, the blank behind it and the text of the others
+before_last : (n : ℕ) (ns : List ℕ) (last : ℕ) → decimal n ++ (32 ∷ text_of (ns ++ (last ∷ []))) ≡ text_of (n ∷ (ns ++ (last ∷ [])))
 unfolding text_of
-before n [] t e = rw (← e)
-before n (m ∷ rest) t e = rw (← e, lt-ltb 0 (length (m ∷ rest)) (omega arith))
+before_last n [] last = refl
+before_last n (m ∷ ns) last = refl
 
-more : (i : ℕ) (ns : List ℕ) → ltb 0 (length (drop (suc i) ns)) ≡ ltb (suc i) (length ns)
-more i ns = rw (length-drop (suc i) ns) (more_left (suc i) (length ns) (ltb (suc i) (length ns)) refl)
+-- a number and the blank behind it are written: the text from the next number on is left
+pub number_written : (front : List ℕ) (last i : ℕ) (out₀ out₁ out₂ : List ℕ) (at₀ at₁ at₂ : ℕ) → i < length front
+    → Puts at₀ (decimal (get_or front i 0)) out₀ at₁ out₁ → Puts at₁ (32 ∷ []) out₁ at₂ out₂
+    → Same out₂ at₂ (text_of (drop (i + 1) front ++ (last ∷ []))) out₀ at₀ (text_of (drop i front ++ (last ∷ [])))
+number_written front last i out₀ out₁ out₂ at₀ at₁ at₂ l p q =
+    let rest = text_of (drop (suc i) front ++ (last ∷ [])) in
+    rw (add-one i, drop-cons front i 0 l, ← (before_last (get_or front i 0) (drop (suc i) front) last))
+    (then (written at₁ at₂ (32 ∷ []) rest out₁ out₂ q.0 q.1) (written at₀ at₁ (decimal (get_or front i 0)) (32 ∷ rest) out₀ out₁ p.0 p.1))
 
-pub next_number : (ns : List ℕ) (i : ℕ) → i < length ns
-    → decimal (get_or ns i 0) ++ (mark (ltb (i + 1) (length ns)) ∷ text_of (drop (i + 1) ns)) ≡ text_of (drop i ns)
-next_number ns i l = rw (add-one i, drop-cons ns i 0 l) (before (get_or ns i 0) (drop (suc i) ns) (ltb (suc i) (length ns)) (more i ns))
+no_text : (old : List ℕ) → Writes [] old 0 old
+unfolding text_of
+no_text old = (omega arith, omega arith, (nothing 0 old).1)
 
--- a number and the mark behind it are written: the text from the next number on is left
-pub number_written : (ns : List ℕ) (i : ℕ) (out₀ out₁ out₂ : List ℕ) (at₀ at₁ at₂ m : ℕ) → i < length ns
-    → at₁ ≡ behind at₀ (decimal (get_or ns i 0)) out₀ → out₁ ≡ overlaid at₀ (decimal (get_or ns i 0)) out₀
-    → m ≡ mark (ltb (i + 1) (length ns))
-    → at₂ ≡ behind at₁ (m ∷ []) out₁ → out₂ ≡ overlaid at₁ (m ∷ []) out₁
-    → Same out₂ at₂ (text_of (drop (i + 1) ns)) out₀ at₀ (text_of (drop i ns))
-number_written ns i out₀ out₁ out₂ at₀ at₁ at₂ m l e f g h k =
-    let behind_mark = text_of (drop (i + 1) ns) in
-    rw (← (next_number ns i l), ← g)
-    (then (written at₁ at₂ (m ∷ []) behind_mark out₁ out₂ h k) (written at₀ at₁ (decimal (get_or ns i 0)) (m ∷ behind_mark) out₀ out₁ e f))
+-- no numbers have no text
+pub none_written : (ns old : List ℕ) → length ns ≡ 0 → Writes ns old 0 old
+none_written [] old e = no_text old
+none_written (n ∷ ns) old e = absurd (omega arith)
 
-pub text_written : (ns : List ℕ) (i : ℕ) (out old : List ℕ) (at : ℕ) → length ns ≤ i → Same out at (text_of (drop i ns)) old 0 (text_of ns)
-    → (at ≡ min (length (text_of ns)) (length old)) × (out ≡ overlaid 0 (text_of ns) old)
+-- the last number and the newline behind it are written: that is all of the text
+pub text_written : (ns front : List ℕ) (last i : ℕ) (old out₀ out₁ out₂ : List ℕ) (at₀ at₁ at₂ : ℕ) → ns ≡ front ++ (last ∷ []) → length front ≤ i
+    → Same out₀ at₀ (text_of (drop i front ++ (last ∷ []))) old 0 (text_of (front ++ (last ∷ [])))
+    → Puts at₀ (decimal last) out₀ at₁ out₁ → Puts at₁ (10 ∷ []) out₁ at₂ out₂ → Writes ns old at₂ out₂
 unfolding text_of behind
-text_written ns i out old at l s =
-    let done = all_written 0 at (text_of ns) out old (rw (drop_of_length-le ns l) at s) in
-    (omega (arith, done.0), done.1)
+text_written ns front last i old out₀ out₁ out₂ at₀ at₁ at₂ e l s p q =
+    let here = rw (drop_of_length-le front l) at s in
+    let newline = written at₁ at₂ (10 ∷ []) [] out₁ out₂ q.0 q.1 in
+    let number = written at₀ at₁ (decimal last) (10 ∷ []) out₀ out₁ p.0 p.1 in
+    let done = all_written 0 at₂ (text_of (front ++ (last ∷ []))) out₂ old (then (then newline number) here) in
+    let long : length out₂ ≡ length old = rw done.1 (length_over 0 (text_of (front ++ (last ∷ []))) old) in
+    rw e (omega (arith, done.0), omega (arith, done.0), done.1)
