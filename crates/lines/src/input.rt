@@ -1,5 +1,6 @@
 // The lines of an input: a line that comes in byte by byte, and a reader that is run to its end.
-ghost use Rattle.std.specs.Prelude.{◌≡◌, ◌≤◌, ◌==◌, take, [], ◌∷◌, ◌++◌};
+ghost use Rattle.std.specs.Prelude.{◌≡◌, ◌≤◌, ◌==◌, take, [], ◌∷◌, ◌++◌, OnOk};
+ghost use Rattle.lines.specs.Input.{longer, ended, begun, Answered};
 
 use std::io;
 use std::io::Read;
@@ -33,7 +34,8 @@ impl<const ROOM: usize> Line<ROOM> {
 
     // One byte more.
     pub fn push(&mut self, byte: u8)
-        ensures { take self.new.length self.new.bytes ≡ take ROOM (take self.old.length self.old.bytes ++ (byte ∷ [])) }
+        ensures front { take self.new.front self.new.bytes ≡ take self.old.front self.old.bytes }
+        ensures line { take self.new.length self.new.bytes ≡ longer ROOM (take self.old.length self.old.bytes) byte }
     {
         if self.length < ROOM {
             self.bytes[self.length] = byte;
@@ -48,7 +50,8 @@ impl<const ROOM: usize> Line<ROOM> {
     }
 
     pub fn clear(&mut self)
-        ensures { take self.new.length self.new.bytes ≡ take self.old.front (take self.old.length self.old.bytes) }
+        ensures front { take self.new.front self.new.bytes ≡ take self.old.front self.old.bytes }
+        ensures line { take self.new.length self.new.bytes ≡ take self.old.front self.old.bytes }
     {
         self.length = self.front;
     }
@@ -67,7 +70,12 @@ fn take_in<const ROOM: usize, F: FnMut(&[u8]) -> io::Result<()>>(
     answer: &mut F,
 ) -> io::Result<()>
     requires { F.IsAlwaysCallable answer.old }
-    ensures { F.IsAlwaysCallable answer.new }
+    ensures callable { F.IsAlwaysCallable answer.new }
+    ensures front { take line.new.front line.new.bytes ≡ take line.old.front line.old.bytes }
+    ensures rest { OnOk result (take line.new.length line.new.bytes
+        ≡ begun ROOM (take line.old.front line.old.bytes) (take line.old.length line.old.bytes) input.now) }
+    ensures answered { OnOk result (Answered F.FnMut answer.old
+        (ended ROOM (take line.old.front line.old.bytes) (take line.old.length line.old.bytes) input.now) answer.new) }
 {
     for byte in input {
         if *byte == b'\n' {

@@ -1,0 +1,24 @@
+-- How bytes are cut into lines: a newline ends a line, each line stands behind a front, and a line is kept as far as its room goes.
+-- Assumes nothing.
+use Rattle.std.specs.Prelude.{ℕ, cond, List, [], ◌∷◌, ◌++◌, eqb, take, Result, Ok, ⊤}
+use Rattle.std.specs.Borrow.{Bor}
+use Rattle.std.specs.Fn.{Mut, CalledAt}
+use Rattle.std.specs.List.{FoldsTo}
+
+-- a line with one byte more
+abbrev pub longer : ℕ → List ℕ → ℕ → List ℕ
+longer room line b = take room (line ++ (b ∷ []))
+
+-- the lines that end among these bytes, where the first of them is begun
+unfoldable pub ended : ℕ → List ℕ → List ℕ → List ℕ → List (List ℕ)
+ended room front line [] = []
+ended room front line (b ∷ bs) = cond (eqb b 10) (line ∷ ended room front front bs) (ended room front (longer room line b) bs)
+
+-- the line that is begun behind them
+unfoldable pub begun : ℕ → List ℕ → List ℕ → List ℕ → List ℕ
+begun room front line [] = line
+begun room front line (b ∷ bs) = cond (eqb b 10) (begun room front front bs) (begun room front (longer room line b) bs)
+
+-- a closure was called at each of the lines, one behind another, and refused none
+abbrev pub Answered : {F E : Type 0} → Mut F (Bor (List ℕ) × Unit {0}) (Result ⊤ E) → F → List (List ℕ) → F → Type 0
+Answered {F} {E} g f lines f' = FoldsTo (λ p x q. CalledAt g p x (Ok tt) q) f lines f'
