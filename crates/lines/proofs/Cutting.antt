@@ -1,16 +1,19 @@
 -- Bytes are cut into lines one by one. Assumes nothing.
-use Prim.Native.Nat.{ℕ, suc, ◌+◌, ◌≤◌, ◌<◌}
-use mathlib.Core.List.{List, [], ◌∷◌}
-use mathlib.Core.Path.{◌≡◌, refl, sym, ◌∙◌}
+use Prim.Native.Nat.{ℕ, ◌+◌, ◌-◌, ◌^◌, ◌≤◌, ◌<◌}
+use mathlib.Core.Bool.{Bool, true, false, cond}
+use mathlib.Core.List.{List, [], ◌∷◌, ◌++◌}
+use mathlib.Core.Path.{◌≡◌, refl, sym, ◌∙◌, ap}
 use native.Mathlib.Numerals.{add-one}
+use native.Mathlib.Omega.{arith}
 use lib.Dec.{eqb}
 use borrow.Author.Tests.{eq-eqb, ne_eqb}
-use lib.ListN.{length, get_or, drop, drop_of_length-le}
+use lib.ListN.{length, length-append, get_or, drop, drop_of_length-le}
 use lib.Seq.{drop-cons}
-use Rattle.std.proofs.Common.{Result, Ok, Bor}
+use Rattle.std.proofs.Common.{Option, Some, None, Result, Ok, Bor}
+use Rattle.std.specs.Io.KnownBytes.{Consumes, IsAtEnd}
 use Rattle.std.specs.Bool.{⊤}
 use Rattle.std.specs.Fn.{Mut, CalledAt}
-use Rattle.lines.specs.Input.{longer, ended, begun, Answered}
+use Rattle.lines.specs.Input.{longer, ended, begun, lines_of, Answered, AllAnswered}
 
 module _ (room : ℕ) (front line bs : List ℕ) (i : ℕ) where
   -- at a newline a line ends, and the next one is begun
@@ -71,3 +74,83 @@ module _ {F E : Type 0} (g : Mut F (Bor (List ℕ) × Unit {0}) (Result ⊤ E)) 
 
   pub cut_lines : (i : ℕ) (front now : List ℕ) (h : F) → length bs ≤ i → Cut g room bs first line f i front now h → Answered g f (ended room first line bs) h
   cut_lines i front now h l cut = cut.lines h (rw (ended-none room front now bs i l) refl)
+
+-- some bytes and those behind them
+ended_case : (t : Bool) (line : List ℕ) (x y x' y' : List (List ℕ)) (u v : List ℕ) (k : List ℕ → List (List ℕ)) → x ≡ x' ++ k u → y ≡ y' ++ k v
+    → cond t (line ∷ x) y ≡ cond t (line ∷ x') y' ++ k (cond t u v)
+ended_case true line x y x' y' u v k e f = ap (λ (l : List (List ℕ)). line ∷ l) e
+ended_case false line x y x' y' u v k e f = f
+
+ended-append : (room : ℕ) (front line cs bs : List ℕ) → ended room front line (cs ++ bs) ≡ ended room front line cs ++ ended room front (begun room front line cs) bs
+unfolding ended begun
+ended-append room front line [] bs = refl
+ended-append room front line (c ∷ cs) bs =
+    ended_case (eqb c 10) line _ _ _ _ _ _ (λ l. ended room front l bs) (ended-append room front front cs bs) (ended-append room front (longer room line c) cs bs)
+
+begun_case : (t : Bool) (x y u v : List ℕ) (k : List ℕ → List ℕ) → x ≡ k u → y ≡ k v → cond t x y ≡ k (cond t u v)
+begun_case true x y u v k e f = e
+begun_case false x y u v k e f = f
+
+begun-append : (room : ℕ) (front line cs bs : List ℕ) → begun room front line (cs ++ bs) ≡ begun room front (begun room front line cs) bs
+unfolding begun
+begun-append room front line [] bs = refl
+begun-append room front line (c ∷ cs) bs =
+    begun_case (eqb c 10) _ _ _ _ (λ l. begun room front l bs) (begun-append room front front cs bs) (begun-append room front (longer room line c) cs bs)
+
+module _ {F E : Type 0} (g : Mut F (Bor (List ℕ) × Unit {0}) (Result ⊤ E)) where
+  answered-append : (xs ys : List (List ℕ)) (f h last : F) → Answered g f xs h → Answered g h ys last → Answered g f (xs ++ ys) last
+  answered-append [] ys f h last a b = rw a b
+  answered-append (x ∷ xs) ys f h last a b = (a.0, a.1, answered-append xs ys a.0 h last a.2 b)
+
+  -- so many turns were taken, each with a byte, and what is left of the input ends the same lines as all of it
+  pub record Unread (room : ℕ) (front line : List ℕ) (f : F) (bs : List ℕ) (turn : ℕ) (now : List ℕ) (h : F) (left : List ℕ) : Type 0 where
+    pub few : turn + length left ≤ length bs
+    pub rest : begun room front now left ≡ begun room front line bs
+    pub lines : (last : F) → Answered g h (ended room front now left) last → Answered g f (ended room front line bs) last
+
+  -- the same of an input whose bytes may be known
+  abbrev pub Left : (room : ℕ) (front line : List ℕ) (f : F) → Option (List ℕ) → ℕ → List ℕ → F → Option (List ℕ) → Type 0
+  Left room front line f None turn now h known = Unit {0}
+  Left room front line f (Some bs) turn now h None = ⊥
+  Left room front line f (Some bs) turn now h (Some left) = Unread room front line f bs turn now h left
+
+  module _ (room : ℕ) (front line : List ℕ) (f : F) where
+    pub unread : (known : Option (List ℕ)) → Left room front line f known 0 line f known
+    unread None = tt
+    unread (Some bs) = record { few = omega arith; rest = refl; lines = λ last a. a }
+
+    -- some of it was read, and its lines answered
+    pub read_some : (known was is : Option (List ℕ)) (turn : ℕ) (now now' : List ℕ) (h h' : F) (some : List ℕ) → 0 < length some
+        → Consumes was is some → now' ≡ begun room front now some → Answered g h (ended room front now some) h'
+        → Left room front line f known turn now h was → Left room front line f known (turn + 1) now' h' is
+    read_some None was is turn now now' h h' some l c e a left = tt
+    read_some (Some bs) None is turn now now' h h' some l c e a left = absurd left
+    read_some (Some bs) (Some xs) None turn now now' h h' some l c e a left = c
+    read_some (Some bs) (Some xs) (Some ys) turn now now' h h' some l c e a left = record {
+      few = omega (arith, left.few, ap length c, length-append some ys);
+      rest = rw e (sym (begun-append room front now some ys) ∙ (rw (← c) left.rest));
+      lines = λ last b. left.lines last (rw (c, ended-append room front now some ys) (answered-append (ended room front now some) _ h h' last a (rw (← e) b)));
+    }
+
+    nothing_left : (bs now : List ℕ) (turn : ℕ) (h h' : F) (t : Bool) → eqb (length now) (length front) ≡ t → Answered g h (cond t [] (now ∷ [])) h'
+        → Unread room front line f bs turn now h [] → Answered g f (lines_of room front line bs) h'
+    unfolding lines_of ended begun
+    nothing_left bs now turn h h' t e a left =
+        rw (← left.rest, e) (answered-append (ended room front line bs) (cond t [] (now ∷ [])) f h h' (left.lines h refl) a)
+
+    -- all of it was read, and its last line answered
+    pub read_all : (known was is : Option (List ℕ)) (turn : ℕ) (now : List ℕ) (h h' : F) (t : Bool) → eqb (length now) (length front) ≡ t → Answered g h (cond t [] (now ∷ [])) h'
+        → Consumes was is [] → IsAtEnd is → Left room front line f known turn now h was → AllAnswered g room front line f known
+    read_all None was is turn now h h' t e a c end left = tt
+    read_all (Some bs) None is turn now h h' t e a c end left = absurd left
+    read_all (Some bs) (Some xs) None turn now h h' t e a c end left = absurd c
+    read_all (Some bs) (Some xs) (Some ys) turn now h h' t e a c end left =
+        let none : xs ≡ [] = c ∙ end in
+        λ few. (h', nothing_left bs now turn h h' t e a (rw none at left))
+
+    -- each turn takes a byte, so an input of no more bytes than turns is read to its end
+    pub out_of_turns : (known was : Option (List ℕ)) (turn : ℕ) (now : List ℕ) (h : F) → 2 ^ 64 - 1 ≤ turn
+        → Left room front line f known turn now h was → AllAnswered g room front line f known
+    out_of_turns None was turn now h l left = tt
+    out_of_turns (Some bs) None turn now h l left = absurd left
+    out_of_turns (Some bs) (Some xs) turn now h l left = λ few. absurd (omega (arith, left.few))

@@ -1,6 +1,6 @@
 // The lines of an input: a line that comes in byte by byte, and a reader that is run to its end.
-ghost use Rattle.std.specs.Prelude.{◌≡◌, ◌≤◌, ◌==◌, take, [], ◌∷◌, ◌++◌, OnOk};
-ghost use Rattle.lines.specs.Input.{longer, ended, begun, Answered};
+ghost use Rattle.std.specs.Prelude.{◌≡◌, ◌≤◌, ◌==◌, take, [], ◌∷◌, ◌++◌, OnOk, length};
+ghost use Rattle.lines.specs.Input.{longer, ended, begun, Answered, AllAnswered};
 
 use std::io;
 use std::io::Read;
@@ -57,7 +57,7 @@ impl<const ROOM: usize> Line<ROOM> {
     }
 
     pub fn is_empty(&self) -> bool
-        ensures { result ≡ (self.now.length == self.now.front) }
+        ensures { result ≡ (length (take self.now.length self.now.bytes) == length (take self.now.front self.now.bytes)) }
     {
         self.length == self.front
     }
@@ -95,19 +95,21 @@ pub fn each<const ROOM: usize, R: Read, F: FnMut(&[u8]) -> io::Result<()> + Drop
     mut answer: F,
 ) -> io::Result<()>
     requires { F.IsAlwaysCallable answer }
+    ensures { OnOk result (AllAnswered F.FnMut ROOM (take line.old.front line.old.bytes) (take line.old.length line.old.bytes)
+        answer (R.remaining reader.old)) }
 {
     let mut input = [0u8; CHUNK];
     // A proved loop has to end, and nothing says that the input does: no run uses these turns up.
     for _turn in 0..u64::MAX {
         let count = reader.read(&mut input)?;
         if count == 0 {
-            break;
+            if !line.is_empty() {
+                answer(line.as_slice())?;
+                line.clear();
+            }
+            return Ok(());
         }
         take_in(line, &input[..count], &mut answer)?;
-    }
-    if !line.is_empty() {
-        answer(line.as_slice())?;
-        line.clear();
     }
     Ok(())
 }

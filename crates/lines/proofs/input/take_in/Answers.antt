@@ -11,12 +11,12 @@ pub loop-byte-preserved : goal.loop-byte-preserved
 loop-byte-preserved g c =
     let was = c.loop-byte.invariant.cut in
     elim c.if-byte-eq10.branch [
-      then-byte-eq10+in_ok-answer w ↦ rw (w.line-is, w.answer-is) record {
+      | then-byte-eq10+in_ok-answer w ↦ rw (w.line-is, w.answer-is) record {
         callable = search (rules, of_calls);
         cut = cut_newline _ _ _ _ _ _ _ _ _ _ _ _ _ c.loop-byte-test.true w.if-byte-eq10.true
-          record { shown = w.as_slice.result; shows = w.as_slice.ensures; called = w.in_ok-answer.ensures } w.clear.ensures.front w.clear.ensures.line was;
+            record { shown = w.as_slice.result; shows = w.as_slice.ensures; called = w.in_ok-answer.ensures } w.clear.ensures.front w.clear.ensures.line was;
       }
-    | else-byte-eq10 w ↦ rw (w.line-is, w.answer-is) record {
+      | else-byte-eq10 w ↦ rw (w.line-is, w.answer-is) record {
         callable = c.loop-byte.invariant.callable;
         cut = cut_byte _ _ _ _ _ _ _ _ _ _ _ _ c.loop-byte-test.true w.if-byte-eq10.false w.push.ensures.front w.push.ensures.line was;
       }

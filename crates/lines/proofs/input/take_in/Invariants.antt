@@ -7,5 +7,5 @@ abbrev pub invariant-loop-byte : goal.invariant-loop-byte
 invariant-loop-byte g l = record {
   callable : goal.F-IsAlwaysCallable g l.answer;
   cut : Cut g.F.FnMut g.row.ROOM l.input (take l.initial.line.front l.initial.line.bytes) (take l.initial.line.length l.initial.line.bytes) l.initial.answer
-    l.byte-index (take l.line.front l.line.bytes) (take l.line.length l.line.bytes) l.answer;
+      l.byte-index (take l.line.front l.line.bytes) (take l.line.length l.line.bytes) l.answer;
 }
