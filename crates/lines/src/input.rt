@@ -20,7 +20,8 @@ pub struct Line<const ROOM: usize> {
 impl<const ROOM: usize> Line<ROOM> {
     // An empty line behind the front, as far as there is room for that.
     pub fn behind(front: &[u8]) -> Line<ROOM>
-        ensures { take result.length result.bytes ≡ take ROOM front.now }
+        ensures front { take result.front result.bytes ≡ take ROOM front.now }
+        ensures line { take result.length result.bytes ≡ take ROOM front.now }
     {
         let length = front.len().min(ROOM);
         let mut bytes = [0u8; ROOM];
@@ -63,7 +64,7 @@ impl<const ROOM: usize> Line<ROOM> {
     }
 }
 
-// Each line that ends among the bytes is answered.
+// Each line that ends among the bytes is answered. A line that is refused ends it.
 fn take_in<const ROOM: usize, F: FnMut(&[u8]) -> io::Result<()>>(
     line: &mut Line<ROOM>,
     input: &[u8],
@@ -88,7 +89,7 @@ fn take_in<const ROOM: usize, F: FnMut(&[u8]) -> io::Result<()>>(
     Ok(())
 }
 
-// Each line of the input is answered, the last one too where no newline ends it.
+// Each line of the input is answered, the last one too where no newline ends it. A line that is refused ends it, and so does a read.
 pub fn each<const ROOM: usize, R: Read, F: FnMut(&[u8]) -> io::Result<()> + Drop>(
     reader: &mut R,
     line: &mut Line<ROOM>,

@@ -1,4 +1,5 @@
-// Lines of decimal numbers: read, fitted into narrower kinds, written. No function here has a `requires`.
+// Lines of decimal numbers: read from an input, taken apart, fitted into narrower kinds, written. No function here has a `requires`, but
+// that a closure may be called.
 #![tactic(auto)]
 
 mod fit;

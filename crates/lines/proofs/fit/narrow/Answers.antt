@@ -1,9 +1,11 @@
 -- `lines::fit::narrow` meets its contract: the numbers that are left, stored from the place reached on, are all of them stored from the
 -- start. Assumes nothing.
 use Prim.Native.Nat.{◌+◌}
-use mathlib.Core.Path.{◌∙◌}
+use mathlib.Core.Bool.{true}
+use mathlib.Core.Path.{◌≡◌, ◌∙◌}
 use native.Mathlib.Omega.{arith}
 use lib.ListN.{length-set}
+use Rattle.lines.specs.Over.{all_below}
 use Rattle.lines.proofs.Below.{all_of, each_below, no_room, too_wide, all_fit}
 use Rattle.lines.proofs.Stores.{stored, finished}
 use Rattle.lines.proofs.fit.narrow.Goals as goal
@@ -21,7 +23,7 @@ returns-then-out-numbers g c =
 
 pub of-requires : goal.of-requires
 of-requires g c =
-    let all = all_of _ _ _ _ c.MAX.ensures c.all_at_most.ensures c.if-not-all_at_most.false in
+    let all : all_below (g.T.Width.MAX + 1) c.args.numbers.now ≡ true = all_of _ _ _ _ c.MAX.ensures c.all_at_most.ensures c.if-not-all_at_most.false in
     omega (arith, each_below (g.T.Width.MAX + 1) c.args.numbers.now c.loop-i.i all c.loop-i-test.true)
 
 pub loop-i-preserved : goal.loop-i-preserved
@@ -35,7 +37,7 @@ pub returns : goal.returns
 returns g c =
     let was = c.loop-i in
     let t = g.met.T.Width in
-    let all = all_of _ _ _ _ c.MAX.ensures c.all_at_most.ensures c.if-not-all_at_most.false in
+    let all : all_below (g.T.Width.MAX + 1) c.args.numbers.now ≡ true = all_of _ _ _ _ c.MAX.ensures c.all_at_most.ensures c.if-not-all_at_most.false in
     let long = t.length_of_numbers c.args.out.now in
     let now = t.length_of_numbers was.out in
     let done = finished c.args.numbers.now (g.T.Width.numbers was.out) (g.T.Width.numbers c.args.out.now) was.i was.i 0 was.invariant.1 (λ l. omega arith) in
