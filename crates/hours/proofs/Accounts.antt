@@ -15,7 +15,7 @@ use Rattle.words.proofs.Zeros.{zeros}
 use Rattle.table.specs.Limits.{Limits}
 use Rattle.table.specs.Rules.{roles_broken}
 use Rattle.hours.specs.declared.Record.{Record}
-use Rattle.hours.specs.declared.Figures.{Figures}
+use Rattle.hours.specs.Figures.{Figures}
 use Rattle.hours.specs.Records.{at, spans, total, alone}
 use Rattle.hours.specs.Report.{MOST, earlier, stray, each, refusal, figures, report_of}
 use Rattle.hours.specs.Promises.{Reports}

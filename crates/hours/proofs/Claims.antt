@@ -7,7 +7,7 @@ use lib.ListN.{length, replicate}
 use Rattle.words.specs.Below.{lowest, sum}
 use Rattle.table.specs.Limits.{base}
 use Rattle.hours.specs.declared.Record.{Record}
-use Rattle.hours.specs.declared.Figures.{Figures}
+use Rattle.hours.specs.Figures.{Figures}
 use Rattle.hours.specs.Records.{blank}
 use Rattle.hours.specs.Report.{each, report_of}
 

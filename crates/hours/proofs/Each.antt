@@ -1,12 +1,13 @@
 -- The list of a function's values at the numbers below a bound. Assumes nothing.
-use Prim.Native.Nat.{ℕ, zero, suc, ◌-◌, ◌≤◌, ◌<◌}
-use mathlib.Core.List.{[], ◌∷◌, ◌++◌, append-nil, append_assoc}
+use Prim.Native.Nat.{ℕ, zero, suc, ◌+◌, ◌-◌, ◌≤◌, ◌<◌}
+use mathlib.Core.List.{List, [], ◌∷◌, ◌++◌}
 use mathlib.Core.Logic.{⊎_elim}
 use mathlib.Core.Path.{◌≡◌, refl, sym, subst, ◌∙◌}
 use native.Mathlib.Nat.{eq-or-lt_of_le, le_of_suc-le-suc}
 use native.Mathlib.Omega.{arith}
-use lib.ListN.{length, get_or, set, replicate, length-append, get_or-append, get_or-eq_default}
-use lib.Seq.{get_or_at, set_at}
+use lib.ListN.{length, get_or, take, drop, length-append, get_or-append, get_or-eq_default}
+use lib.Seq.{get_or_at, get_or-drop, take-suc}
+use Rattle.std.proofs.lemmas.List.{length-drop}
 use Rattle.hours.specs.Report.{each}
 
 pub length_each : (f : ℕ → ℕ) (n : ℕ) → length (each f n) ≡ n
@@ -33,13 +34,10 @@ unfolding each
 each_ext f g zero h = refl
 each_ext f g (suc n) h = rw (each_ext f g n (λ k l. h k (omega arith)), h n (omega arith))
 
--- a list is filled from its front: the next value is put where the zeros begin
-pub fill_next : (f : ℕ → ℕ) (m n v : ℕ) → n < m → v ≡ f n → set (each f n ++ replicate (m - n) 0) n v ≡ each f (suc n) ++ replicate (m - suc n) 0
+-- the values of a list from place a on
+pub each_range : (xs : List ℕ) (a n : ℕ) → a + n ≤ length xs → each (λ k. get_or xs (a + k) 0) n ≡ take n (drop a xs)
 unfolding each
-fill_next f m n v l e =
-    let left : m - n ≡ suc (m - suc n) = omega arith in
-    rw (left, e)
-    (set_at (each f n) 0 (replicate (m - suc n) 0) (f n) n (length_each f n) ∙ sym (append_assoc (each f n) (f n ∷ []) (replicate (m - suc n) 0)))
-
-pub fill_all : (f : ℕ → ℕ) (m n : ℕ) → n ≡ m → each f n ++ replicate (m - n) 0 ≡ each f m
-fill_all f m n e = let z : m - m ≡ 0 = omega arith in rw (e, z) (append-nil (each f m))
+each_range xs a zero l = refl
+each_range xs a (suc n) l =
+    let long : length (drop a xs) ≡ length xs - a = length-drop a xs in
+    rw (each_range xs a n (omega arith), take-suc (drop a xs) n 0 (omega arith), get_or-drop a xs n 0) refl

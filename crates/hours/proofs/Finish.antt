@@ -2,7 +2,7 @@
 use Prim.Native.Nat.{ℕ, zero, suc, ◌+◌, ◌-◌, ◌^◌, ◌≤◌, ◌<◌}
 use mathlib.Core.Bool.{Bool, true, false, cond, not}
 use mathlib.Core.List.{List}
-use mathlib.Core.Path.{◌≡◌, refl, ◌∙◌}
+use mathlib.Core.Path.{◌≡◌, refl, sym, ◌∙◌}
 use native.Mathlib.Omega.{arith}
 use lib.Count.{ones, count_trailing_zeros}
 use lib.Dec.{ltb, eqb}
@@ -14,15 +14,16 @@ use Rattle.words.proofs.Below.{sum_ext, sum_zero, lowest_none, lowest_at}
 use Rattle.table.specs.Limits.{Limits}
 use Rattle.hours.specs.declared.Record.{Record}
 use Rattle.hours.specs.declared.tally.Tally.{Tally}
-use Rattle.hours.specs.declared.Figures.{Figures}
+use Rattle.hours.specs.Figures.{Figures}
 use Rattle.hours.specs.Records.{at, spans, covers, minutes_of, is_alone, is_several, is_nobody, total, awake, asleep, alone, several, nobody}
-use Rattle.hours.specs.Report.{MINUTE, SET, earlier, stray, each, figures, refused_at}
-use Rattle.hours.specs.mirror.Tally.{WIDTH, ALONE, SUMS, slot_of, alone_of, finish_of}
+use Rattle.hours.specs.Report.{MINUTE, SET, earlier, stray, each, refusal, figures, refused_at}
+use Rattle.std.proofs.Common.{Option, Some, None}
+use Rattle.hours.specs.mirror.Sums.{WIDTH, ALONE, SUMS, slot_of, alone_of}
+use Rattle.hours.specs.mirror.Tally.{last_of, slot_at, spent_on, Noted, clean, first, Fine, accepted_of, finish_by, finish_of}
 use Rattle.hours.proofs.Sums.{sum_head}
 use Rattle.hours.proofs.Each.{each_ext}
 use Rattle.hours.proofs.Slots.{slot_first, slot_asleep, is_nobody_lem, is_several_lem, is_alone_lem}
 use Rattle.hours.proofs.Minutes.{Rising, awake_asleep}
-use Rattle.hours.proofs.Run.{last_of, slot_at, spent_on, Noted, clean, first, Fine, Run, early, fine}
 
 -- the minutes of a sum are those of the records that it stands for
 spent_of : (rs : List Record) (k n : ℕ) → 0 < k → spent_on rs k n ≡ sum (λ i. cond (eqb (slot_of (at rs i).awake (at rs i).set) k) (covers rs i) 0) (n - 1)
@@ -52,15 +53,15 @@ module _ (lim : Limits) (wide : lim.roles ≤ WIDTH) (rs : List Record) (roles :
   abbrev rest : Figures
   rest = refused_at lim SET (stray roles rs) rs (figures lim rs)
 
-  abbrev Ends : Tally → Type 0
-  Ends t = finish_of lim t ≡ refused_at lim MINUTE (earlier rs) rs rest
+  -- record j is the first that is earlier than the one before
+  pub early_is : (j : ℕ) → j < n → earlier rs j ≡ true → ((k : ℕ) → k < j → earlier rs k ≡ false) → refusal lim MINUTE j ≡ refused_at lim MINUTE (earlier rs) rs rest
+  early_is j l e h = rw (lowest_at (earlier rs) n j l h e, lt-ltb j n l)
 
-  early_ends : (t : Tally) (j : ℕ) → j < n → earlier rs j ≡ true → ((k : ℕ) → k < j → earlier rs k ≡ false) → t.number ≡ MINUTE → t.place ≡ j → Ends t
-  early_ends t j l e h a b = rw (a, b, lowest_at (earlier rs) n j l h e, lt-ltb j n l)
+  late_is : ((k : ℕ) → k < n → earlier rs k ≡ false) → refused_at lim MINUTE (earlier rs) rs rest ≡ rest
+  late_is h = rw (lowest_none (earlier rs) n h, le-ltb n n (omega arith))
 
-  stray_ends : (t : Tally) (j : ℕ) → ((k : ℕ) → k < n → earlier rs k ≡ false) → j < n → stray roles rs j ≡ true → ((k : ℕ) → k < j → stray roles rs k ≡ false)
-      → t.number ≡ SET → t.place ≡ j → Ends t
-  stray_ends t j r l e h a b = rw (a, b, lowest_none (earlier rs) n r, le-ltb n n (omega arith), lowest_at (stray roles rs) n j l h e, lt-ltb j n l)
+  stray_is : (j : ℕ) → j < n → stray roles rs j ≡ true → ((k : ℕ) → k < j → stray roles rs k ≡ false) → refusal lim SET j ≡ rest
+  stray_is j l e h = rw (lowest_at (stray roles rs) n j l h e, lt-ltb j n l)
 
   -- a kind of records by the sum that they go to
   kind_of : (t : Tally) → Fine rs roles n t → (k : ℕ) → 0 < k → k < SUMS → (p : Record → Bool)
@@ -98,25 +99,12 @@ module _ (lim : Limits) (wide : lim.roles ≤ WIDTH) (rs : List Record) (roles :
         each_ext (λ k. get_or t.sums (ALONE + k) 0) (λ k. alone lim k rs) lim.roles
         (λ k m. kind_of t f (ALONE + k) (omega arith) (omega arith) (is_alone lim k) (λ i l. is_alone_lem lim wide (at rs i) (small i l) k m))
 
-    all_ends : t.number ≡ 0 → Ends t
-    all_ends z =
-        rw (
-          z,
-          lowest_none (earlier rs) n f.rising,
-          lowest_none (stray roles rs) n h,
-          le-ltb n n (omega arith),
-          awake_ends,
-          total_ends,
-          asleep_ends,
-          nobody_ends,
-          several_ends,
-          alone_ends,
-        )
+    all_ends : accepted_of lim t ≡ rest
+    all_ends = rw (lowest_none (stray roles rs) n h, le-ltb n n (omega arith), awake_ends, total_ends, asleep_ends, nobody_ends, several_ends, alone_ends)
 
-  fine_ends : (t : Tally) → Fine rs roles n t → (a b : ℕ) → t.number ≡ a → t.place ≡ b → Noted (stray roles rs) n a b → Ends t
-  fine_ends t f a b x y (clean h) = all_ends t f h x
-  fine_ends t f a b x y (first {j = j} l e h) = stray_ends t j f.rising l e h x y
+  noted_ends : (t : Tally) → Fine rs roles n t → (o : Option ℕ) → Noted (stray roles rs) n o → finish_by lim t o ≡ rest
+  noted_ends t f None (clean h) = all_ends t f h
+  noted_ends t f (Some j) (first l e h) = stray_is j l e h
 
-  pub run_ends : (t : Tally) → Run rs roles n t → Ends t
-  run_ends t (early {j = j} l e h a b) = early_ends t j l e h a b
-  run_ends t (fine f) = fine_ends t f t.number t.place refl refl f.noted
+  pub fine_ends : (t : Tally) → Fine rs roles n t → finish_of lim t ≡ refused_at lim MINUTE (earlier rs) rs rest
+  fine_ends t f = noted_ends t f t.stray f.noted ∙ sym (late_is f.rising)

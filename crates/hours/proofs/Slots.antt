@@ -9,7 +9,7 @@ use borrow.Author.Tests.{ne_eqb, lt-ltb}
 use Rattle.table.specs.Limits.{Limits}
 use Rattle.hours.specs.declared.Record.{Record}
 use Rattle.hours.specs.Records.{is_in, roles_in, is_alone, is_several, is_nobody}
-use Rattle.hours.specs.mirror.Tally.{WIDTH, ALONE, slot_by, slot_of}
+use Rattle.hours.specs.mirror.Sums.{WIDTH, ALONE, slot_by, slot_of}
 use Rattle.hours.proofs.Sets.{eqb_add, ones_in, only_in}
 
 -- several roles

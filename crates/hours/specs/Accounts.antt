@@ -1,4 +1,4 @@
--- Document 02, K8: what every report keeps, whatever the log. Assumes nothing.
+-- what every report keeps, whatever the log. Assumes nothing.
 use Rattle.std.specs.Prelude.{ℕ, ◌+◌, ◌^◌, ◌<◌, List, ◌≢◌, ◌≡◌, length, get_or}
 use Rattle.words.specs.Below.{sum}
 use Rattle.table.specs.Limits.{Limits}
@@ -6,7 +6,7 @@ use Rattle.table.specs.Numbers.{ACCEPTED}
 use Rattle.hours.specs.Records.{at, total}
 use Rattle.hours.specs.Report.{refusal}
 use Rattle.hours.specs.declared.Record.{Record}
-use Rattle.hours.specs.declared.Figures.{Figures}
+use Rattle.hours.specs.Figures.{Figures}
 
 -- the minutes awaiting each role alone, several roles, nobody, together
 abbrev pub parts : Limits → Figures → ℕ

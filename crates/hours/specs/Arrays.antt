@@ -5,7 +5,7 @@ use Rattle.table.specs.Numbers.{ROLES}
 use Rattle.table.specs.Rules.{roles_broken}
 use Rattle.hours.specs.Report.{RECORDS, refusal, report_of}
 use Rattle.hours.specs.declared.Record.{Record}
-use Rattle.hours.specs.declared.Figures.{Figures}
+use Rattle.hours.specs.Figures.{Figures}
 
 abbrev pub record_of : ℕ → ℕ → ℕ → Record
 record_of minute flag set = record { minute = minute; awake = not (eqb flag 0); set = set }

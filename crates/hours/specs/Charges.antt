@@ -1,4 +1,4 @@
--- Document 02, K8, what the report is for: a record whose set is the engine's awaited answer charges exactly the roles that could act. Assumes nothing.
+-- What the report is for: a record whose set is the engine's awaited answer charges exactly the roles that could act. Assumes nothing.
 use Rattle.std.specs.Prelude.{ℕ, ◌<◌, Bool, false, ◌&&◌, List, ◌≡◌, ltb, eqb}
 use Rattle.words.specs.Below.{how_many}
 use Rattle.table.specs.Limits.{Limits}

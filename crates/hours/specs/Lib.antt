@@ -1,5 +1,7 @@
 pub mod Records
+pub mod Figures
 pub mod Report
+pub mod Said
 pub mod Arrays
 pub mod Promises
 pub mod Accounts

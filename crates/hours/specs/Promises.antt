@@ -4,7 +4,7 @@ use Rattle.table.specs.Limits.{Limits}
 use Rattle.hours.specs.Report.{report_of}
 use Rattle.hours.specs.Arrays.{report_of_arrays}
 use Rattle.hours.specs.declared.Record.{Record}
-use Rattle.hours.specs.declared.Figures.{Figures}
+use Rattle.hours.specs.Figures.{Figures}
 
 abbrev pub Reports : Limits → List Record → ℕ → Figures → Type 0
 Reports lim rs roles f = f ≡ report_of lim rs roles

@@ -1,4 +1,4 @@
--- Document 02, K8: the records of a log, the minutes that each covers, and the minutes of a kind. Assumes nothing.
+-- the records of a log, the minutes that each covers, and the minutes of a kind. Assumes nothing.
 use Rattle.std.specs.Prelude.{ℕ, suc, ◌-◌, ◌/◌, ◌%◌, ◌^◌, Bool, false, cond, not, ◌&&◌, List, ltb, eqb, length, get_or}
 use Rattle.words.specs.Below.{sum, how_many}
 use Rattle.table.specs.Limits.{Limits}

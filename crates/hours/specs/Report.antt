@@ -1,4 +1,4 @@
--- Document 02, K8: the report of a log, and what it refuses. Assumes nothing.
+-- the report of a log, and what it refuses. Assumes nothing.
 use Rattle.std.specs.Prelude.{ℕ, zero, suc, ◌^◌, Bool, false, cond, not, List, [], ◌∷◌, ◌++◌, ltb, length, replicate}
 use Rattle.words.specs.Below.{lowest, sum}
 use Rattle.table.specs.Limits.{Limits}
@@ -6,7 +6,7 @@ use Rattle.table.specs.Numbers.{ACCEPTED, ROLES}
 use Rattle.table.specs.Rules.{roles_broken}
 use Rattle.hours.specs.Records.{at, total, awake, asleep, alone, several, nobody}
 use Rattle.hours.specs.declared.Record.{Record}
-use Rattle.hours.specs.declared.Figures.{Figures}
+use Rattle.hours.specs.Figures.{Figures}
 
 abbrev pub RECORDS : ℕ
 RECORDS = 27

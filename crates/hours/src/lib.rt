@@ -4,25 +4,29 @@
 use table::Table;
 
 pub mod arrays;
+mod gather;
+mod refusal;
 mod tally;
 
 ghost use Rattle.table.specs.Limits.{base};
+ghost use Rattle.hours.specs.Said.{figures_of};
 ghost use Rattle.hours.specs.Promises.{Reports};
+
+pub use refusal::Refusal;
 
 // One moment of the log: the minute, whether the car is awake from then on, and the roles awaited after that moment's call (role r is the
 // digit of weight 2 to the r).
-#[derive(Clone, Copy)]
+#[derive(Clone, Copy, Debug, PartialEq, Eq)]
 pub struct Record {
     pub minute: u32,
     pub awake: bool,
     pub set: u16,
 }
 
-// What a report says: the number, the record that it names, and the minutes.
-#[derive(Clone, Copy)]
+// The minutes of an accepted log: all of them, those awake and asleep, and of those awake the ones that await each role alone, several
+// roles, and nobody.
+#[derive(Clone, Copy, Debug, PartialEq, Eq)]
 pub struct Figures {
-    pub number: u8,
-    pub place: usize,
     pub total: u32,
     pub awake: u32,
     pub asleep: u32,
@@ -32,26 +36,13 @@ pub struct Figures {
 }
 
 impl Figures {
-    pub const RECORDS: u8 = 27;
-
-    pub const MINUTE: u8 = 28;
-
-    pub const SET: u8 = 29;
     // A log has at most MOST records.
     pub const MOST: usize = 4096;
 }
 
-// The report of the records. Each is read once, and its fields go to the tally.
-pub fn report(records: &[Record], roles: usize) -> Figures
-    ensures { Reports base records.now roles result }
+// The report of the records.
+pub fn report(records: &[Record], roles: usize) -> Result<Figures, Refusal>
+    ensures { Reports base records.now roles (figures_of base result) }
 {
-    let turns = tally::turns(roles, records.len());
-    let mut t = tally::start(roles, records.len());
-    let mut i = 0usize;
-    while i < turns {
-        let e = records[i];
-        t = tally::step(t, roles, i, e.minute, e.awake, e.set);
-        i += 1;
-    }
-    tally::finish(t)
+    gather::of_each(|i| records[i], records.len(), roles)
 }

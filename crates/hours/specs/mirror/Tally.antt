@@ -1,81 +1,68 @@
 -- What the code keeps: the sums after some records. Assumes nothing.
-use Rattle.std.specs.Prelude.{ℕ, zero, suc, ◌+◌, ◌-◌, ◌/◌, ◌^◌, ◌<◌, Bool, cond, ◌&&◌, List, ◌≡◌, ltb, eqb, length, get_or, set, replicate}
-use Rattle.std.specs.Int.Count.{ones, count_trailing_zeros}
+use Rattle.std.specs.Prelude.{ℕ, zero, suc, ◌-◌, ◌<◌, Bool, true, false, cond, List, ◌≡◌, ltb, eqb, length, get_or, Option, Some, None, Result, Ok, Err}
 use Rattle.words.specs.Below.{sum}
 use Rattle.table.specs.Limits.{Limits}
-use Rattle.table.specs.Numbers.{ACCEPTED, ROLES}
+use Rattle.table.specs.Numbers.{ACCEPTED}
 use Rattle.table.specs.Rules.{roles_broken}
 use Rattle.hours.specs.Records.{at}
-use Rattle.hours.specs.Report.{RECORDS, MINUTE, SET, MOST, each, refusal}
+use Rattle.hours.specs.Report.{SET, MOST, earlier, stray, refusal}
+use Rattle.hours.specs.Figures.{Figures}
 use Rattle.hours.specs.declared.Record.{Record}
-use Rattle.hours.specs.declared.Figures.{Figures}
+use Rattle.hours.specs.declared.refusal.Refusal.{Refusal}
+use Rattle.hours.specs.declared.refusal.Refusal.TheVariants.{Roles, Records, Minute}
 use Rattle.hours.specs.declared.tally.Tally.{Tally}
+use Rattle.hours.specs.mirror.Sums.{SUMS, slot_of, alone_of}
 
--- the sums: minutes before the first record, asleep, awaiting nobody, several, each role alone; a set has WIDTH digits
-abbrev pub WIDTH : ℕ
-WIDTH = 16
+-- what is refused before any record is read
+abbrev pub refused : Bool → Refusal → Result Unit Refusal → Result Unit Refusal
+refused true r rest = Err r
+refused false r rest = rest
 
-abbrev pub ALONE : ℕ
-ALONE = 4
+abbrev pub roles_refused : Limits → ℕ → Result Unit Refusal
+roles_refused lim roles = refused (roles_broken lim roles) Roles (Ok tt)
 
-abbrev pub SUMS : ℕ
-SUMS = ALONE + WIDTH
+abbrev pub size_refused : Limits → ℕ → ℕ → Result Unit Refusal
+size_refused lim roles n = refused (roles_broken lim roles) Roles (refused (ltb MOST n) Records (Ok tt))
 
--- the sum that the minutes after a record go to, by whether it is awake, how many roles it awaits, and the lowest of them
-abbrev pub slot_by : Bool → ℕ → ℕ → ℕ
-slot_by w many low = cond w (cond (eqb many 0) 2 (cond (eqb many 1) (ALONE + low) 3)) 1
+-- a closure's answers, by its `post`, are the records of the list
+pub record Lists (post : ℕ → Record → Type 0) (n : ℕ) (rs : List Record) : Type 0 where
+  pub long : length rs ≡ n
+  pub each : (i : ℕ) (r : Record) → i < n → post i r → r ≡ at rs i
 
-abbrev pub slot_of : Bool → ℕ → ℕ
-slot_of w s = slot_by w (ones s) (count_trailing_zeros WIDTH s)
+-- the lowest of the first i records that the test holds of
+pub data Noted (p : ℕ → Bool) (i : ℕ) : Option ℕ → Type 0 where
+  clean : ((k : ℕ) → k < i → p k ≡ false) → Noted p i None
+  first : {j : ℕ} → j < i → p j ≡ true → ((k : ℕ) → k < j → p k ≡ false) → Noted p i (Some j)
 
-abbrev pub size_refusal : Limits → ℕ → ℕ → ℕ
-size_refusal lim roles n = cond (roles_broken lim roles) ROLES (cond (ltb MOST n) RECORDS ACCEPTED)
+-- before record i: the latest minute, and the sum that the minutes up to record i go to
+abbrev pub last_of : List Record → ℕ → ℕ
+last_of rs zero = 0
+last_of rs (suc i) = (at rs i).minute
 
-abbrev pub turns_of : Limits → ℕ → ℕ → ℕ
-turns_of lim roles n = cond (eqb (size_refusal lim roles n) ACCEPTED) n 0
+abbrev pub slot_at : List Record → ℕ → ℕ
+slot_at rs zero = 0
+slot_at rs (suc i) = slot_of (at rs i).awake (at rs i).set
 
-abbrev pub start_of : Limits → ℕ → ℕ → Tally
-start_of lim roles n = record { number = size_refusal lim roles n; place = 0; last = 0; slot = 0; sums = replicate SUMS 0 }
+-- the minutes up to record i that go to sum k
+abbrev pub spent_on : List Record → ℕ → ℕ → ℕ
+spent_on rs k i = sum (λ j. cond (eqb (slot_at rs j) k) ((at rs j).minute - last_of rs j) 0) i
 
--- the minutes since the latest record go to its sum
-abbrev pub spent : Tally → ℕ → List ℕ
-spent t m = set t.sums t.slot (get_or t.sums t.slot 0 + (m - t.last))
+-- the tally of the first i records, none of which is earlier than the one before
+pub record Fine (rs : List Record) (roles i : ℕ) (t : Tally) : Type 0 where
+  pub rising : (k : ℕ) → k < i → earlier rs k ≡ false
+  pub noted : Noted (stray roles rs) i t.stray
+  pub last : t.last ≡ last_of rs i
+  pub slot : t.slot ≡ slot_at rs i
+  pub sums : (k : ℕ) → k < SUMS → get_or t.sums k 0 ≡ spent_on rs k i
 
--- after record i, whose fields are given
-unfoldable pub step_of : ℕ → Tally → ℕ → ℕ → Bool → ℕ → Tally
-step_of roles t i m w s =
-    cond (eqb t.number MINUTE) t (
-    cond (ltb m t.last) (record { number = MINUTE; place = i; last = t.last; slot = t.slot; sums = t.sums }) (
-    let new = eqb t.number ACCEPTED && ltb 0 (s / 2 ^ roles) in
+-- one record more, or the refusal of one that is earlier
+abbrev pub Steps : List Record → ℕ → ℕ → Tally → Result Unit Refusal → Type 0
+Steps rs roles i t (Ok u) = Fine rs roles (suc i) t
+Steps rs roles i t (Err r) = (r ≡ Minute i) × (earlier rs i ≡ true)
+
+abbrev pub accepted_of : Limits → Tally → Figures
+accepted_of lim t =
     record {
-      number = cond new SET t.number;
-      place = cond new i t.place;
-      last = m;
-      slot = slot_of w s;
-      sums = spent t m;
-    }))
-
--- all the sums together are the latest minute
-pub record Sane (t : Tally) : Type 0 where
-  pub near : t.slot < SUMS
-  pub long : length t.sums ≡ SUMS
-  pub full : sum (λ k. get_or t.sums k 0) SUMS ≡ t.last
-
--- after i records
-unfoldable pub after : Limits → List Record → ℕ → ℕ → Tally
-unfolding step_of
-after lim rs roles zero = start_of lim roles (length rs)
-after lim rs roles (suc i) =
-    let r = at rs i in step_of roles (after lim rs roles i) i r.minute r.awake r.set
-
--- the sum of each role alone
-abbrev pub alone_of : Limits → List ℕ → List ℕ
-alone_of lim sums = each (λ k. get_or sums (ALONE + k) 0) lim.roles
-
-abbrev pub finish_of : Limits → Tally → Figures
-finish_of lim t =
-    cond (eqb t.number ACCEPTED)
-    (record {
       number = ACCEPTED;
       place = 0;
       total = t.last - get_or t.sums 0 0;
@@ -84,5 +71,11 @@ finish_of lim t =
       alone = alone_of lim t.sums;
       several = get_or t.sums 3 0;
       nobody = get_or t.sums 2 0;
-    })
-    (refusal lim t.number t.place)
+    }
+
+abbrev pub finish_by : Limits → Tally → Option ℕ → Figures
+finish_by lim t (Some i) = refusal lim SET i
+finish_by lim t None = accepted_of lim t
+
+abbrev pub finish_of : Limits → Tally → Figures
+finish_of lim t = finish_by lim t t.stray
