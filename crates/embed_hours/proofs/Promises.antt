@@ -3,7 +3,7 @@
 use Prim.Native.Nat.{ℕ}
 use mathlib.Core.List.{List}
 use mathlib.Core.Path.{◌≡◌, sym, ◌∙◌}
-use Rattle.hours.specs.declared.Figures.{Figures}
+use Rattle.hours.specs.Figures.{Figures}
 use Rattle.embed_hours.specs.Lent.{Reported}
 
 -- gaugetwinkle_report

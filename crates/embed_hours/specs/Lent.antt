@@ -1,6 +1,6 @@
 -- A report that is handed over: its number is returned, its figures stand behind the pointers and in the lent slice. Assumes nothing.
 use Rattle.std.specs.Prelude.{ℕ, List, ◌++◌, ◌≡◌, length, take, drop}
-use Rattle.hours.specs.declared.Figures.{Figures}
+use Rattle.hours.specs.Figures.{Figures}
 
 -- as many of the figures as there are places; the places behind the last figure stay
 abbrev pub laid : List ℕ → List ℕ → List ℕ

@@ -6,23 +6,15 @@ ghost use Rattle.table.specs.Limits.{base};
 ghost use Rattle.hours.specs.Arrays.{report_of_arrays};
 ghost use Rattle.embed_hours.specs.Lent.{laid, Reported};
 
-use hours::arrays;
+use hours::{Figures, arrays};
 use table::Table;
 
 // As many of the figures as there are places.
 fn lay(figures: [u32; Table::ROLES], places: &mut [u32])
     ensures { places.new ≡ laid figures places.old }
 {
-    let count = if places.len() < Table::ROLES {
-        places.len()
-    } else {
-        Table::ROLES
-    };
-    let mut role = 0;
-    while role < count {
-        places[role] = figures[role];
-        role += 1;
-    }
+    let count = places.len().min(figures.len());
+    places[..count].copy_from_slice(&figures[..count]);
 }
 
 // The report of the log whose record i is minute i, whether flag i is not 0, and set i.
@@ -43,14 +35,16 @@ pub extern "C" fn gaugetwinkle_report(
     ensures { Reported (report_of_arrays base minutes.now flags.now sets.now roles) alone.old
         result place.new total.new awake.new asleep.new alone.new several.new nobody.new }
 {
-    let figures = arrays::report(minutes, flags, sets, roles);
-    *place = figures.place;
+    let (number, named, figures) = match arrays::report(minutes, flags, sets, roles) {
+        Ok(figures) => (0, 0, figures),
+        Err(refusal) => (u8::from(refusal), refusal.place(), Figures::NONE),
+    };
+    *place = named;
     *total = figures.total;
     *awake = figures.awake;
     *asleep = figures.asleep;
-    let each = figures.alone;
-    lay(each, alone);
+    lay(figures.alone, alone);
     *several = figures.several;
     *nobody = figures.nobody;
-    figures.number
+    number
 }

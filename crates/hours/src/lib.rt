@@ -38,6 +38,15 @@ pub struct Figures {
 impl Figures {
     // A log has at most MOST records.
     pub const MOST: usize = 4096;
+    // Those of a refused log.
+    pub const NONE: Figures = Figures {
+        total: 0,
+        awake: 0,
+        asleep: 0,
+        alone: [0; Table::ROLES],
+        several: 0,
+        nobody: 0,
+    };
 }
 
 // The report of the records.
