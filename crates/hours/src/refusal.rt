@@ -2,6 +2,8 @@
 ghost use Rattle.std.specs.Prelude.{◌≡◌};
 ghost use Rattle.hours.specs.Said.{number_of, place_of};
 
+use std::fmt;
+
 // The count of the roles; too many records; a record that is earlier than the one before it; one that awaits a role that is not in the
 // session.
 #[derive(Clone, Copy, Debug, PartialEq, Eq)]
@@ -36,6 +38,18 @@ impl From<Refusal> for u8 {
             Refusal::Records => 27,
             Refusal::Minute(_) => 28,
             Refusal::Set(_) => 29,
+        }
+    }
+}
+
+// The reason for a person.
+impl fmt::Display for Refusal {
+    fn fmt<W: fmt::Write>(&self, f: &mut fmt::Formatter<W>) -> fmt::Result {
+        match self {
+            Refusal::Roles => write!(f, "the role count"),
+            Refusal::Records => write!(f, "too many records"),
+            Refusal::Minute(place) => write!(f, "record {place} is earlier than the one before"),
+            Refusal::Set(place) => write!(f, "record {place} awaits a role that is not in the session"),
         }
     }
 }

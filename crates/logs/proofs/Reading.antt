@@ -9,8 +9,8 @@ use lib.ListN.{length, take, drop}
 use lib.Seq.{take_all, take_at}
 use borrow.Author.Tests.{leb-true}
 use Rattle.words.proofs.Below.{and_both}
-use Rattle.lines.specs.declared.read.Count.{Count}
-use Rattle.lines.specs.declared.read.Count.TheVariants.{Of, Malformed}
+use Rattle.std.proofs.Common.{Option, Some, None}
+use Rattle.std.specs.Option.{unwrap_or}
 use Rattle.lines.specs.Line.{well_formed, numbers_of, count_of}
 use Rattle.lines.specs.Over.{overlaid}
 use Rattle.lines.proofs.Counting.{few_numbers}
@@ -24,38 +24,15 @@ over_front xs old l =
     let none : 0 + length xs ≡ length xs = omega arith in
     rw (all, none, take_all (length old) xs l) (take_at xs (drop (length xs) old) (length xs) refl)
 
-module _ (line old : List ℕ) (long : length old ≡ LONGEST) where
-  pub none_read : (c : Count) → c ≡ count_of line (length old) → c ≡ Malformed → line_numbers line ≡ []
+module _ (line old new : List ℕ) (long : length old ≡ LONGEST) (written : new ≡ cond (leb (length line) (length old)) (overlaid 0 (numbers_of line) old) old) where
+  read_by : (b : Bool) → is_line line ≡ b → let n = unwrap_or (cond b (Some (length (numbers_of line))) None) 0 in (take n new ≡ cond b (numbers_of line) []) × (n ≤ LONGEST)
+  read_by false e = (refl, omega arith)
+  read_by true e =
+      let short : leb (length line) LONGEST ≡ true = (and_both (leb (length line) LONGEST) (well_formed line) e).0 in
+      let all : length (numbers_of line) ≤ length old = omega (arith, leb-true (length line) LONGEST short, few_numbers line) in
+      let there : new ≡ overlaid 0 (numbers_of line) old = written ∙ rw (long, short) in
+      (rw there (over_front (numbers_of line) old all), omega (arith, all, long))
+
+  pub all_read : (r : Option ℕ) → r ≡ count_of line (length old) → (n : ℕ) → n ≡ unwrap_or r 0 → (take n new ≡ line_numbers line) × (n ≤ LONGEST)
   unfolding count_of
-  none_read c e f = by (is_line line) refl
-    where
-      by : (b : Bool) → is_line line ≡ b → cond b (numbers_of line) [] ≡ []
-      by false g = refl
-      by true g =
-          let z : ◌≡◌ {A = ℕ} 0 1 = cc (rw (long, g) at e) in
-          absurd (omega arith)
-
-  module _ (c : Count) (n : ℕ) (e : c ≡ count_of line (length old)) (f : c ≡ Of n) where
-    a_line : is_line line ≡ true
-    unfolding count_of
-    a_line = by (is_line line) refl
-      where
-        by : (b : Bool) → is_line line ≡ b → b ≡ true
-        by true g = refl
-        by false g =
-            let z : ◌≡◌ {A = ℕ} 0 1 = cc (rw (long, g) at e) in
-            absurd (omega arith)
-
-    counted : n ≡ length (numbers_of line)
-    unfolding count_of
-    counted =
-        let h = rw (long, a_line) at e in
-        cc
-
-    pub all_read : (new : List ℕ) → new ≡ cond (leb (length line) (length old)) (overlaid 0 (numbers_of line) old) old
-        → (take n new ≡ line_numbers line) × (n ≤ LONGEST)
-    all_read new g =
-        let short : leb (length line) LONGEST ≡ true = (and_both (leb (length line) LONGEST) (well_formed line) a_line).0 in
-        let all : length (numbers_of line) ≤ length old = omega (arith, leb-true (length line) LONGEST short, few_numbers line) in
-        let there : new ≡ overlaid 0 (numbers_of line) old = g ∙ rw (long, short) in
-        (rw (a_line, counted, there) (over_front (numbers_of line) old all), omega (arith, counted, all, long))
+  all_read r e n f = rw (f, e, long) (read_by (is_line line) refl)

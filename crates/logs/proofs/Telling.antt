@@ -1,12 +1,14 @@
 -- The numbers of a report in one line, and the line's bytes. Assumes nothing.
-use Prim.Native.Nat.{ℕ, zero, suc, ◌+◌, ◌-◌, ◌*◌, ◌/◌, ◌%◌, ◌≤◌, ◌<◌, min}
-use mathlib.Core.Bool.{Bool, true, false, cond, not, ◌||◌, true≢false}
+use Prim.Native.Nat.{ℕ, zero, suc, ◌+◌, ◌*◌, ◌/◌, ◌%◌, ◌≤◌, min}
+use mathlib.Core.Bool.{Bool, true, false, cond}
 use mathlib.Core.List.{List, [], ◌∷◌, ◌++◌}
-use mathlib.Core.Path.{◌≡◌, refl, sym, ap, ◌∙◌}
+use mathlib.Core.Path.{◌≡◌, refl, ap, ◌∙◌}
 use native.Mathlib.Omega.{arith}
 use lib.Dec.{ltb}
-use lib.ListN.{length, get_or, set, take, length-append, get_or-append, get_or-eq_default}
-use lib.Seq.{get_or_at, get_or-append-add, ext_get_or}
+use lib.ListN.{replicate, drop}
+use borrow.Rule.Slice.PartMut.{put_mid}
+use lib.ListN.{length, take, length-append}
+use lib.Seq.{take_at, drop_at}
 use borrow.Author.Tests.{ltb-false}
 use Rattle.words.specs.Below.{lowest}
 use Rattle.words.proofs.Below.{lowest_le}
@@ -14,62 +16,17 @@ use Rattle.lines.specs.Over.{overlaid}
 use Rattle.lines.specs.Text.{digits_of, decimal, text_of}
 use Rattle.table.specs.Limits.{Limits}
 use Rattle.table.specs.Rules.{roles_broken}
-use Rattle.hours.specs.Report.{MOST, earlier, stray, each, refusal, figures, report_of}
+use Rattle.hours.specs.Report.{MOST, earlier, stray, refusal, figures, report_of}
 use Rattle.hours.specs.declared.Record.{Record}
-use Rattle.hours.specs.declared.Figures.{Figures}
-use Rattle.hours.proofs.Each.{length_each, each_at}
 use Rattle.logs.specs.Lines.{told_of, answer_of}
-use Rattle.logs.specs.Logs.{records, keeps}
+use Rattle.std.proofs.Common.{Some, None}
+use Rattle.logs.specs.Logs.{records, kept_by, keeps, roles_of}
+use Rattle.logs.specs.declared.State.{State}
+use Rattle.logs.specs.declared.State.TheVariants.{Fresh, Faulty, Begun}
 use Rattle.logs.specs.declared.Log.{Log}
 use Rattle.logs.proofs.Reading.{over_front}
 
--- ---- the number at a place
-
-module _ (alone : List ℕ) (n several nobody : ℕ) (long : length alone ≡ n) where
-  abbrev back : List ℕ
-  back = alone ++ (several ∷ nobody ∷ [])
-
-  pub at_alone : (i : ℕ) → i < n → get_or alone i 0 ≡ get_or back i 0
-  at_alone i l = sym (get_or-append alone (several ∷ nobody ∷ []) 0 i (omega arith))
-
-  pub at_several : (i : ℕ) → i ≡ n → several ≡ get_or back i 0
-  at_several i e = sym (get_or_at alone several (nobody ∷ []) 0 i (long ∙ sym e))
-
-  pub at_nobody : (i : ℕ) → i ≡ n + 1 → nobody ≡ get_or back i 0
-  at_nobody i e = sym (ap (λ (k : ℕ). get_or back k 0) (e ∙ ap (λ (k : ℕ). k + 1) (sym long)) ∙ get_or-append-add alone (several ∷ nobody ∷ []) 1 0)
-
-  back_length : length back ≡ n + 2
-  back_length = length-append alone (several ∷ nobody ∷ []) ∙ omega arith
-
-  pub at_none : (i : ℕ) → n + 2 ≤ i → 0 ≡ get_or back i 0
-  at_none i l = sym (get_or-eq_default back 0 (omega (arith, back_length)))
-
-pub at_back : (a b c d e : ℕ) (rest : List ℕ) (i : ℕ) → 5 ≤ i → get_or rest (i - 5) 0 ≡ get_or (a ∷ b ∷ c ∷ d ∷ e ∷ rest) i 0
-at_back a b c d e rest zero l = absurd (omega arith)
-at_back a b c d e rest (suc zero) l = absurd (omega arith)
-at_back a b c d e rest (suc (suc zero)) l = absurd (omega arith)
-at_back a b c d e rest (suc (suc (suc zero))) l = absurd (omega arith)
-at_back a b c d e rest (suc (suc (suc (suc zero)))) l = absurd (omega arith)
-at_back a b c d e rest (suc (suc (suc (suc (suc i))))) l =
-    let p : suc (suc (suc (suc (suc i)))) - 5 ≡ i = omega arith in
-    ap (λ (k : ℕ). get_or rest k 0) p
-
-pub told_length : (f : Figures) (n : ℕ) → length f.alone ≡ n → length (told_of f) ≡ 7 + n
-told_length f n long = let e = back_length f.alone n f.several f.nobody long in omega (arith, e)
-
--- a list is its values at its places
-pub each_all : (xs : List ℕ) (n : ℕ) → length xs ≡ n → each (λ k. get_or xs k 0) n ≡ xs
-each_all xs n e =
-    ext_get_or 0 (each (λ k. get_or xs k 0) n) xs (length_each (λ k. get_or xs k 0) n ∙ sym e)
-    (λ i l. each_at (λ k. get_or xs k 0) n i (omega (arith, length_each (λ k. get_or xs k 0) n)))
-
--- ---- the bytes
-
-pub asked : (text : List ℕ) → 2 ≤ length text → take 2 (set (set text 0 63) 1 10) ≡ 63 ∷ 10 ∷ []
-asked [] l = absurd (omega arith)
-asked (a ∷ []) l = absurd (omega arith)
-asked (a ∷ b ∷ text) l = refl
-
+-- a number has at most ten digits
 digits_long : (k n : ℕ) → length (digits_of k n) ≤ k
 unfolding digits_of
 digits_long zero n = omega arith
@@ -121,21 +78,29 @@ place_le lim rs roles = by_tests (roles_broken lim roles) (ltb MOST n) (ltb i n)
     by_tests false false false true e = omega (arith, lowest_le (stray roles rs) n, ltb-false MOST n e)
     by_tests false false false false e = omega arith
 
-module _ (lim : Limits) (log : Log) (ms ws ss : List ℕ) where
-  pub asks : (log.faulty || not log.begun) ≡ true → answer_of lim (keeps log ms ws ss) ≡ 63 ∷ 10 ∷ []
+module _ (lim : Limits) (log : Log) where
+  pub asks : roles_of (keeps log) ≡ None → answer_of lim (keeps log) ≡ 63 ∷ 10 ∷ []
   unfolding answer_of
-  asks e = by log.faulty log.begun refl refl
+  asks = by log.state
     where
-      by : (a b : Bool) → log.faulty ≡ a → log.begun ≡ b → answer_of lim (keeps log ms ws ss) ≡ 63 ∷ 10 ∷ []
-      by true b f g = rw f
-      by false false f g = rw (f, g)
-      by false true f g = absurd (true≢false (sym e ∙ rw (f, g)))
+      by : (s : State) → roles_of (kept_by s (records log)) ≡ None → answer_of lim (kept_by s (records log)) ≡ 63 ∷ 10 ∷ []
+      by Fresh e = refl
+      by Faulty e = refl
+      by (Begun roles) e = absurd (grind (arith, e))
 
-  pub tells : (log.faulty || not log.begun) ≡ false → answer_of lim (keeps log ms ws ss) ≡ text_of (told_of (report_of lim (records log ms ws ss) log.roles))
-  unfolding answer_of
-  tells e = by log.faulty log.begun refl refl
+  pub tells : (roles : ℕ) → roles_of (keeps log) ≡ Some roles → answer_of lim (keeps log) ≡ text_of (told_of (report_of lim (records log) roles))
+  unfolding answer_of report_of text_of
+  tells roles = by log.state
     where
-      by : (a b : Bool) → log.faulty ≡ a → log.begun ≡ b → answer_of lim (keeps log ms ws ss) ≡ text_of (told_of (report_of lim (records log ms ws ss) log.roles))
-      by true b f g = absurd (true≢false (rw f at e))
-      by false false f g = absurd (true≢false (rw (f, g) at e))
-      by false true f g = rw (f, g)
+      by : (s : State) → roles_of (kept_by s (records log)) ≡ Some roles → answer_of lim (kept_by s (records log)) ≡ text_of (told_of (report_of lim (records log) roles))
+      by Fresh e = absurd (grind (arith, e))
+      by Faulty e = absurd (grind (arith, e))
+      by (Begun n) e = let q : n ≡ roles = grind (arith, e) in ap (λ (k : ℕ). text_of (told_of (report_of lim (records log) k))) q
+
+-- ---- the numbers of a line, put into an array part by part
+
+pub parts_put : (a b c d e : ℕ) (alone : List ℕ) (m n : ℕ) → length alone ≡ 8
+    → put_mid 13 2 (put_mid 5 8 (a ∷ b ∷ c ∷ d ∷ e ∷ replicate 10 0) alone) (m ∷ n ∷ []) ≡ a ∷ b ∷ c ∷ d ∷ e ∷ alone ++ (m ∷ n ∷ [])
+parts_put a b c d e alone m n long =
+    ap (λ (xs : List ℕ). a ∷ b ∷ c ∷ d ∷ e ∷ take 8 (alone ++ (0 ∷ 0 ∷ [])) ++ (m ∷ n ∷ drop 2 xs)) (drop_at alone (0 ∷ 0 ∷ []) 8 long)
+    ∙ ap (λ (xs : List ℕ). a ∷ b ∷ c ∷ d ∷ e ∷ xs ++ (m ∷ n ∷ [])) (take_at alone (0 ∷ 0 ∷ []) 8 long)

@@ -7,7 +7,7 @@ use Rattle.table.specs.Limits.{Limits}
 use Rattle.hours.specs.Report.{MOST, report_of}
 use Rattle.hours.specs.Arrays.{record_of}
 use Rattle.hours.specs.declared.Record.{Record}
-use Rattle.hours.specs.declared.Figures.{Figures}
+use Rattle.hours.specs.Figures.{Figures}
 
 -- a longer line counts as malformed
 abbrev pub LONGEST : ℕ

@@ -1,26 +1,38 @@
 -- What the code keeps of the lines, and what each call promises. Assumes nothing.
-use Rattle.std.specs.Prelude.{ℕ, false, cond, List, ◌≡◌, length, take}
+use Rattle.std.specs.Prelude.{ℕ, List, [], ◌≡◌, length, take, Option, Some, None}
 use Rattle.table.specs.Limits.{Limits}
 use Rattle.hours.specs.Report.{report_of}
-use Rattle.hours.specs.Arrays.{records_of}
+use Rattle.hours.specs.Figures.{Figures}
 use Rattle.hours.specs.declared.Record.{Record}
-use Rattle.hours.specs.declared.Figures.{Figures}
 use Rattle.logs.specs.Lines.{Kept, fresh, faulty, logged, answer_of}
 use Rattle.logs.specs.declared.Log.{Log}
+use Rattle.logs.specs.declared.State.{State}
+use Rattle.logs.specs.declared.State.TheVariants.{Fresh, Faulty, Begun}
 
--- the records are the first ones of three arrays
-abbrev pub records : Log → List ℕ → List ℕ → List ℕ → List Record
-records log ms ws ss = records_of (take log.count ms) (take log.count ws) (take log.count ss)
+-- the records are the first ones of an array
+abbrev pub records : Log → List Record
+records log = take log.records.count log.records.items
 
-abbrev pub keeps : Log → List ℕ → List ℕ → List ℕ → Kept
-keeps log ms ws ss = cond log.faulty faulty (cond log.begun (logged log.roles (records log ms ws ss)) fresh)
+abbrev pub kept_by : State → List Record → Kept
+kept_by Fresh rs = fresh
+kept_by Faulty rs = faulty
+kept_by (Begun roles) rs = logged roles rs
+
+abbrev pub keeps : Log → Kept
+keeps log = kept_by log.state (records log)
 
 abbrev pub Starts : Log → Type 0
-Starts log = log ≡ record { begun = false; faulty = false; roles = 0; count = 0 }
+Starts log = (log.state ≡ Fresh) × (records log ≡ [])
+
+-- the role count of lines of which none is malformed
+abbrev pub roles_of : Kept → Option ℕ
+roles_of fresh = None
+roles_of faulty = None
+roles_of (logged roles rs) = Some roles
 
 -- the report of the records that are kept
-abbrev pub Figured : Limits → Log → List ℕ → List ℕ → List ℕ → Figures → Type 0
-Figured lim log ms ws ss f = f ≡ report_of lim (records log ms ws ss) log.roles
+abbrev pub Figured : Limits → Log → ℕ → Figures → Type 0
+Figured lim log roles f = f ≡ report_of lim (records log) roles
 
 -- the answer's bytes are the first ones of the text, and how many they are; of those behind them nothing is said
 abbrev pub Answers : Limits → Kept → ℕ → List ℕ → Type 0

@@ -1,17 +1,15 @@
 // A log as lines of numbers, and the line that answers it. A line is handed over behind a letter and a blank, as `lines` reads it.
 #![tactic(auto)]
 
+mod records;
 mod shown;
 
-ghost use Rattle.std.specs.Prelude.{◌≡◌, false, true, suc, ◌≤◌, length, take};
-ghost use Rattle.table.specs.Limits.{base};
-ghost use Rattle.hours.specs.Report.{MOST};
-ghost use Rattle.hours.specs.Arrays.{record_of};
-ghost use Rattle.logs.specs.Lines.{LONGEST, line_numbers, record_more, recorded as recorded_by, taken_of};
-ghost use Rattle.logs.specs.Logs.{records, keeps, Starts, Figured, Answers};
+ghost use Rattle.std.specs.Prelude.{◌≡◌, ◌≤◌, length, take};
+ghost use Rattle.logs.specs.Lines.{LONGEST, line_numbers};
+ghost use Rattle.logs.specs.mirror.Numbers.{record_in};
 
-use hours::{Figures, arrays};
-use lines::Count;
+use hours::{Figures, Record, Refusal};
+pub use records::{ROOM, Records};
 pub use shown::{TEXT, Text};
 
 // The bytes of the longest line. It has fewer numbers than bytes.
@@ -19,45 +17,19 @@ pub const LONGEST: usize = 65536;
 
 pub type Numbers = [u32; LONGEST];
 
-// One record more than a log may have: a log that is too long is kept so far.
-pub const ROOM: usize = Figures::MOST + 1;
+// What the lines so far say: nothing yet; that one of them is malformed; the role count.
+#[derive(Clone, Copy, Debug, PartialEq, Eq)]
+pub enum State {
+    Fresh,
+    Faulty,
+    Begun(usize),
+}
 
-pub type Minutes = [u32; ROOM];
-
-pub type Flags = [u8; ROOM];
-
-pub type Sets = [u16; ROOM];
-
-// Whether the role count was read, and whether a line was malformed; the role count, and how many records there are.
-#[derive(Clone, Copy)]
+// What is kept of the lines.
+#[derive(Drop)]
 pub struct Log {
-    pub begun: bool,
-    pub faulty: bool,
-    pub roles: usize,
-    pub count: usize,
-}
-
-// Before the first line.
-pub fn start() -> Log
-    ensures { Starts result }
-{
-    Log {
-        begun: false,
-        faulty: false,
-        roles: 0,
-        count: 0,
-    }
-}
-
-fn fault(log: Log) -> Log
-    ensures { result.faulty ≡ true }
-{
-    Log {
-        begun: log.begun,
-        faulty: true,
-        roles: log.roles,
-        count: log.count,
-    }
+    pub state: State,
+    pub records: Records,
 }
 
 // How many numbers the line has, none where it is malformed; they go to the start of `numbers`.
@@ -65,129 +37,104 @@ fn read(line: &[u8], numbers: &mut [u32]) -> usize
     requires { length numbers.old ≡ LONGEST }
     ensures { (take result numbers.new ≡ line_numbers line.now) × (result ≤ LONGEST) }
 {
-    let count = lines::numbers(line, numbers);
-    match count {
-        Count::Malformed => 0,
-        Count::Of(n) => n,
+    lines::numbers(line, numbers).unwrap_or(0)
+}
+
+// The record that a line of these numbers is.
+fn record_in(numbers: &[u32]) -> Option<Record>
+    ensures { result ≡ record_in numbers.now }
+{
+    match numbers {
+        [minute, flag, set] if *flag < 2 && *set < 65536 => Some(Record {
+            minute: *minute,
+            awake: *flag != 0,
+            set: *set as u16,
+        }),
+        _ => None,
     }
 }
 
-// One record more, where there is room for it.
-fn put(
-    log: Log,
-    minute: u32,
-    flag: u8,
-    set: u16,
-    minutes: &mut [u32],
-    flags: &mut [u8],
-    sets: &mut [u16],
-) -> Log
-    requires { (length minutes.old ≡ suc MOST) × (length flags.old ≡ suc MOST) × (length sets.old ≡ suc MOST) }
-    ensures { (records result minutes.new flags.new sets.new
-        ≡ record_more (records log minutes.old flags.old sets.old) (record_of minute flag set))
-        × (result.begun ≡ log.begun) × (result.faulty ≡ log.faulty) × (result.roles ≡ log.roles) }
-{
-    let at = log.count;
-    if ROOM <= at {
-        return log;
-    }
-    minutes[at] = minute;
-    flags[at] = flag;
-    sets[at] = set;
-    Log {
-        begun: log.begun,
-        faulty: log.faulty,
-        roles: log.roles,
-        count: at + 1,
-    }
-}
+impl Log {
+    ghost use Rattle.std.specs.Prelude.{◌≡◌};
+    ghost use Rattle.table.specs.Limits.{base};
+    ghost use Rattle.hours.specs.Said.{figures_of};
+    ghost use Rattle.logs.specs.Lines.{counted, recorded, taken_of};
+    ghost use Rattle.logs.specs.Logs.{records, keeps, roles_of, Starts, Figured, Answers};
+    ghost use Rattle.logs.specs.declared.State.TheVariants.{Begun};
 
-// A line of so many numbers, behind that of the role count.
-fn recorded(
-    log: Log,
-    count: usize,
-    numbers: &[u32],
-    minutes: &mut [u32],
-    flags: &mut [u8],
-    sets: &mut [u16],
-) -> Log
-    requires { (length numbers.now ≡ LONGEST) × (length minutes.old ≡ suc MOST) × (length flags.old ≡ suc MOST) × (length sets.old ≡ suc MOST)
-        × (log.begun ≡ true) × (log.faulty ≡ false) × (count ≤ LONGEST) }
-    ensures { keeps result minutes.new flags.new sets.new
-        ≡ recorded_by log.roles (records log minutes.old flags.old sets.old) (take count numbers.now) }
-{
-    if count != 3 {
-        return fault(log);
+    // Before the first line.
+    pub fn new() -> Log
+        ensures { Starts result }
+    {
+        Log {
+            state: State::Fresh,
+            records: Records::new(),
+        }
     }
-    let minute = numbers[0];
-    let flag = numbers[1];
-    let set = numbers[2];
-    if !((flag < 2) & (set < 65536)) {
-        return fault(log);
-    }
-    put(log, minute, flag as u8, set as u16, minutes, flags, sets)
-}
 
-// One line more.
-pub fn take(
-    log: Log,
-    line: &[u8],
-    numbers: &mut Numbers,
-    minutes: &mut Minutes,
-    flags: &mut Flags,
-    sets: &mut Sets,
-) -> Log
-    ensures { keeps result minutes.new flags.new sets.new
-        ≡ taken_of (keeps log minutes.old flags.old sets.old) line.now }
-{
-    if log.faulty {
-        return log;
+    // One line more.
+    pub fn take(&mut self, line: &[u8], numbers: &mut Numbers)
+        ensures { keeps self.new ≡ taken_of (keeps self.old) line.now }
+    {
+        match self.state {
+            State::Faulty => {}
+            State::Fresh => {
+                let count = read(line, numbers);
+                self.begin(&numbers[..count]);
+            }
+            State::Begun(roles) => {
+                let count = read(line, numbers);
+                self.record(roles, &numbers[..count]);
+            }
+        }
     }
-    let count = read(line, numbers);
-    if log.begun {
-        return recorded(log, count, numbers, minutes, flags, sets);
-    }
-    if count != 1 {
-        return fault(log);
-    }
-    let roles = lines::size(numbers[0]);
-    Log {
-        begun: true,
-        faulty: false,
-        roles: roles,
-        count: 0,
-    }
-}
 
-fn report(log: Log, minutes: &[u32], flags: &[u8], sets: &[u16]) -> Figures
-    requires { (length flags.now ≡ length minutes.now) × (length sets.now ≡ length minutes.now) }
-    ensures { Figured base log minutes.now flags.now sets.now result }
-{
-    let count = log.count;
-    let minutes_end = lines::cut_numbers(minutes, count);
-    let flags_end = lines::cut_bytes(flags, count);
-    let sets_end = lines::cut_words(sets, count);
-    arrays::report(
-        &minutes[..minutes_end],
-        &flags[..flags_end],
-        &sets[..sets_end],
-        log.roles,
-    )
-}
-
-// The report of the records that were read.
-pub fn figures(log: Log, minutes: &Minutes, flags: &Flags, sets: &Sets) -> Figures
-    ensures { Figured base log minutes.now flags.now sets.now result }
-{
-    report(log, minutes, flags, sets)
-}
-
-// The answer to the lines is the text's first bytes.
-pub fn answer(log: Log, minutes: &Minutes, flags: &Flags, sets: &Sets, text: &mut Text) -> usize
-    ensures { Answers base (keeps log minutes.now flags.now sets.now) result text.new }
-{
-    if log.faulty | !log.begun {
-        return shown::ask(text);
+    // The line of the role count.
+    fn begin(&mut self, numbers: &[u32])
+        ensures { keeps self.new ≡ counted numbers.now }
+    {
+        self.records.clear();
+        self.state = match numbers {
+            [roles] => State::Begun(*roles as usize),
+            _ => State::Faulty,
+        };
     }
-    shown::show(figures(log, minutes, flags, sets), text)
+
+    // A line behind that of the role count.
+    fn record(&mut self, roles: usize, numbers: &[u32])
+        requires { self.old.state ≡ Begun roles }
+        ensures { keeps self.new ≡ recorded roles (records self.old) numbers.now }
+    {
+        match record_in(numbers) {
+            Some(record) => self.records.push(record),
+            None => self.state = State::Faulty,
+        }
+    }
+
+    // The role count, where it was read and no line is malformed.
+    pub fn roles(&self) -> Option<usize>
+        ensures { result ≡ roles_of (keeps self.now) }
+    {
+        match self.state {
+            State::Fresh | State::Faulty => None,
+            State::Begun(roles) => Some(roles),
+        }
+    }
+
+    // The report of the records that were read, for so many roles.
+    pub fn figures(&self, roles: usize) -> Result<Figures, Refusal>
+        ensures { Figured base self.now roles (figures_of base result) }
+    {
+        hours::report(self.records.as_slice(), roles)
+    }
+
+    // The answer to the lines is the text's first bytes.
+    pub fn answer(&self, text: &mut Text) -> usize
+        ensures { Answers base (keeps self.now) result text.new }
+    {
+        match self.roles() {
+            Some(roles) => shown::show(self.figures(roles), text),
+            None => shown::ask(text),
+        }
+    }
 }

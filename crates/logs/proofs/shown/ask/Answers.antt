@@ -1,7 +1,0 @@
--- `logs::shown::ask` meets its contract. Assumes nothing.
-use mathlib.Core.Path.{refl}
-use Rattle.logs.proofs.Telling.{asked}
-use Rattle.logs.proofs.shown.ask.Goals as goal
-
-pub returns : goal.returns
-returns c = (asked c.args.text.now c.requires, refl)
