@@ -15,7 +15,7 @@ use Rattle.table.specs.Rows.{row, is_loop}
 use Rattle.table.specs.Above.{namer, above, loops}
 use Rattle.table.specs.mirror.Names.{near_loops, Rising}
 use Rattle.rules.specs.declared.Nest.{Nest}
-use Rattle.rules.specs.mirror.Names.{places, around_of, near_of, Around}
+use Rattle.rules.specs.mirror.Names.{places, around_of, near_of}
 use Rattle.words.proofs.Zeros.{zeros}
 use Rattle.table.proofs.Walk.{over_zero, above_more, loops_more, near_more}
 
@@ -127,6 +127,3 @@ nests_step t nests n p il new inside small some ep ei e c =
       rw (map-set (λ (n : Nest). n.around) nests n new, e.0, get_or-map (λ (n : Nest). n.around) nests p (record { around = 0; near = 0 })) refl,
       rw (map-set (λ (n : Nest). n.near) nests n new, e.1, get_or-map (λ (n : Nest). n.near) nests p (record { around = 0; near = 0 })) refl,
     )
-
-pub columns_end : (t around near : List ℕ) (n : ℕ) → rows_of t ≤ n → Columns t around near n → Around t around near
-columns_end t around near n h c up i l = (c.0.has up i (omega arith) l, c.1.has up i (omega arith) l)

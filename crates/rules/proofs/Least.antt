@@ -67,9 +67,6 @@ module _ (n m : ℕ) (p : ℕ → Bool) (g : ℕ → Option ℕ) (sound : (e : �
 
 -- ---- the least, row by row
 
-pub least_start : (g : ℕ → Option ℕ) → IsLeast g 0 None
-least_start g e l = absurd (omega arith)
-
 pub least_next : (g : ℕ → Option ℕ) (n : ℕ) (o : Option ℕ) → g n ≡ None → IsLeast g n o → IsLeast g (n + 1) o
 least_next g n None z h = λ e l. go e l (ℕ_discrete e n)
   where

@@ -198,9 +198,6 @@ pub filling_end : (t by count : List ℕ) → Filling t by count 0 → (Namers t
 unfolding lowest sum
 filling_end t by count f = (f.low, λ i l m. let e = f.all i l m in omega arith)
 
-pub namer_le : (t : List ℕ) (i : ℕ) → namer t i ≤ rows_of t
-namer_le t i = lowest_le _ (rows_of t)
-
 -- ---- the places read
 
 module _ (t : List ℕ) (names : List Name) (i : ℕ) (long : i < length names) (some : 0 < i) (l : i < rows_of t) (by : Namers t (named_by (rows_of t) names)) where

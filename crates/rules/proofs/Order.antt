@@ -6,7 +6,9 @@ use mathlib.Core.Path.{◌≡◌, refl, sym, ◌∙◌, ap}
 use lib.Dec.{ltb}
 use native.Mathlib.Omega.{arith}
 use borrow.Author.Tests.{lt-ltb}
-use Rattle.std.specs.Prelude.{Some, None}
+use Rattle.std.specs.Prelude.{Some, None, Result, Err, ⊤}
+use Rattle.std.specs.Result.{IsErrAnd}
+use Rattle.std.proofs.lemmas.Result.{err_from_is_err_and}
 use Rattle.words.specs.Rows.{rows_of}
 use Rattle.words.specs.Below.{lowest}
 use Rattle.words.proofs.Below.{Lowest, found, nowhere, lowest_is}
@@ -15,7 +17,8 @@ use Rattle.table.specs.Numbers.{TWICE}
 use Rattle.table.specs.Rows.{row}
 use Rattle.table.specs.Rules.{Rule, kind, field, link, named, twice, unbound, unguarded, number, breaks, twice_broken}
 use Rattle.table.specs.Check.{Verdict, says, accepted, refused_at, tested}
-use Rattle.table.specs.Refusals.{number_of}
+use Rattle.table.specs.Refusals.{number_of, verdict_of}
+use Rattle.table.specs.declared.refusal.Refusal.{Refusal}
 use Rattle.table.specs.declared.refusal.Rule.{Rule as Refused}
 use Rattle.table.specs.declared.refusal.Rule.TheVariants.{Words, Roles, Room, Kind, Field, Link, Named, Twice, Unbound, Unguarded, NoPart}
 use Rattle.table.specs.mirror.Names.{Rising}
@@ -76,6 +79,11 @@ module _ (t : List ℕ) (roles : ℕ) where
   pub refused : (k : Rule) (ks : List Rule) (v : Verdict) → 0 < v.number → Says k v → v ≡ tested base t roles (k ∷ ks) accepted
   unfolding tested
   refused k ks v h e = stopped v (number k) (lowest (breaks base t roles k) (rows_of t)) (over k) (tested base t roles ks accepted) h e
+
+  -- what a `?` answers for a rule that is broken
+  pub exits : (k : Rule) (ks : List Rule) (r : Result ⊤ Refusal) (e : Refusal) → IsErrAnd r (λ y. y ≡ e) → Says k (verdict_of (Err e))
+      → verdict_of r ≡ tested base t roles (k ∷ ks) accepted
+  exits k ks r e h s = let p = err_from_is_err_and r h in rw (p.1, p.2) (refused k ks (verdict_of (Err e)) (some_number e.rule) s)
 
   -- the last rule
   pub last : (k : Rule) (v : Verdict) → Says k v → v ≡ tested base t roles (k ∷ []) accepted

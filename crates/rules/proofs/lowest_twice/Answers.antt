@@ -10,6 +10,9 @@ pub loop-row-preserved : goal.loop-row-preserved
 loop-row-preserved c =
     let g : ℕ → Option ℕ = λ i. chain_of c.args.words.now (row_at c.args.words.now i) in
     elim c.match-twice.branch [
-      | in-Some w ↦ rw w.least-is (least_with g c.loop-row.row w.in-Some.arm w.map_or.result c.loop-row.least _ (sym c.twice.ensures ∙ w.in-Some.is) c.loop-row.invariant w.map_or.ensures (λ k e. search rules))
+      | in-Some w ↦
+          rw w.least-is
+          (least_with g c.loop-row.row w.in-Some.arm w.map_or.result c.loop-row.least _ (sym c.twice.ensures ∙ w.in-Some.is) c.loop-row.invariant
+          w.map_or.ensures (λ k e. search rules))
       | in_default w ↦ rw w.least-is (least_next g c.loop-row.row c.loop-row.least (sym c.twice.ensures ∙ w.in_default.is) c.loop-row.invariant)
     ]

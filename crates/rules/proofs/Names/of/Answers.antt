@@ -5,18 +5,11 @@ use Prim.Native.Nat.{◌-◌}
 use native.Mathlib.Omega.{arith}
 use Rattle.words.specs.Rows.{rows_of}
 use Rattle.table.specs.mirror.Names.{near_link, far_link}
-use Rattle.rules.specs.mirror.Names.{times_of}
-use Rattle.rules.proofs.Naming.{names_start, filling_turn, filling_end, inside_step, put_bound}
+use Rattle.rules.proofs.Naming.{names_start, filling_turn, filling_end, inside_step}
 use Rattle.rules.proofs.Names.of.Goals as goal
 
 pub loop-row-init : goal.loop-row-init
 loop-row-init c = names_start c.args.words.now (omega arith)
-
-pub add_name-requires : goal.add_name-requires
-add_name-requires c = omega (arith, c.loop-row.invariant.0.few c.near_link.result)
-
-pub add_name-requires-in-loop-row : goal.add_name-requires-in-loop-row
-add_name-requires-in-loop-row c = rw c.add_name.ensures.times (omega (arith, c.loop-row.invariant.0.few c.far_link.result, put_bound (times_of c.loop-row.rows) c.far_link.result c.near_link.result c.loop-row.invariant.0.count_length))
 
 pub loop-row-preserved : goal.loop-row-preserved
 loop-row-preserved c =

@@ -2,7 +2,7 @@
 use mathlib.Core.Path.{◌∙◌}
 use lib.ListN.{get_or-map}
 use native.Mathlib.Omega.{arith}
-use Rattle.rules.proofs.Columns.{nests_start, nests_step, nests_left, columns_end}
+use Rattle.rules.proofs.Columns.{nests_start, nests_step, nests_left}
 use Rattle.rules.proofs.Naming.{named_none, named_some, named_inside}
 use Rattle.rules.proofs.Nests.of.Goals as goal
 use Rattle.rules.proofs.Nests.of.Goals.{in-Some, in_default}
@@ -41,6 +41,3 @@ loop-row-preserved c =
           (nests_left t _ _ at.row (omega arith) (omega (arith, at.auto))
           (named_none t names.rows at.row (omega arith) (omega (arith, at.auto)) (omega arith) names.by w.in_default.is) at.invariant)
     ]
-
-pub invariant_of-result-clause-filled : goal.invariant_of-result-clause-filled
-invariant_of-result-clause-filled c = columns_end c.args.names.now.words.now _ _ c.loop-row.row c.loop-row-test.false c.loop-row.invariant

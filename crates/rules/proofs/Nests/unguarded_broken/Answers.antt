@@ -7,4 +7,10 @@ use Rattle.rules.proofs.Nests.unguarded_broken.Goals as goal
 pub returns-in-Back : goal.returns-in-Back
 returns-in-Back c =
     let near = (c.args.self.now.filled c.requires.1 c.args.row c.requires.0).1 in
-    rw (← c.in-Back.ensures {u = tt}, only_loops_lem, c.from.ensures, ← get_or-map (λ n. n.near) c.args.self.now.rows c.args.row (record { around = 0; near = 0 }), near) refl
+    rw (
+      ← c.in-Back.ensures {u = tt},
+      only_loops_lem,
+      c.from.ensures,
+      ← get_or-map (λ n. n.near) c.args.self.now.rows c.args.row (record { around = 0; near = 0 }),
+      near,
+    ) refl
