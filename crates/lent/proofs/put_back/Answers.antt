@@ -1,1 +1,0 @@
--- `lent::put_back` meets its contract. Assumes nothing.
