@@ -1,3 +1,2 @@
 pub mod Lent
 pub mod Leaves
-pub mod mirror

@@ -6,68 +6,19 @@ ghost use Rattle.std.specs.Prelude.{◌≡◌};
 ghost use Rattle.table.specs.Limits.{base};
 ghost use Rattle.table.specs.Check.{says};
 ghost use Rattle.opening.specs.Opening.{Opens};
-ghost use Rattle.session.specs.Calls.{answers, fresh_of, send_of, receive_of};
 ghost use Rattle.embed.specs.Lent.{wrong_number, fresh_lent, send_lent, receive_lent, awaited_lent, Handed, Answered, Delivered, Told};
-ghost use Rattle.embed.specs.mirror.Given.{given_call};
 
-use blocks::tables;
-use lent::Given;
-use session::{Answer, Awaiting, Session};
+use blocks::tables::Blocks;
+use session::{Awaited, Message, Refusal, Session};
 
 // The number for slices that are no state: 13, or 12 where the tables are not well formed either.
 fn wrong_number(tables: &[u16], roles: usize) -> u8
     ensures { result ≡ wrong_number base tables.now roles }
 {
-    // Tables that are not well formed have no rows here.
-    if tables::rows_of(tables, roles) == 0 {
-        return Answer::TABLES;
+    match Blocks::of(tables, roles) {
+        None => u8::from(Refusal::Tables),
+        Some(_) => u8::from(Refusal::State),
     }
-    Answer::STATE
-}
-
-// The answer for slices that are no state: what was read in stays.
-fn refused(state: Session, tables: &[u16], roles: usize) -> Answer
-    ensures { result ≡ answers base (wrong_number base tables.now roles) state }
-{
-    Answer::of(wrong_number(tables, roles), state)
-}
-
-// The calls over what was read in.
-fn made(given: Given, tables: &[u16], roles: usize) -> Answer
-    ensures { result ≡ given_call base tables.now roles (λ s. fresh_of base tables.now roles) given }
-{
-    if given.whole {
-        return Session::fresh(tables, roles);
-    }
-    refused(given.state, tables, roles)
-}
-
-fn sent(
-    given: Given,
-    tables: &[u16],
-    roles: usize,
-    sender: usize,
-    receiver: usize,
-    label: usize,
-    payload: u32,
-) -> Answer
-    ensures { result ≡ given_call base tables.now roles (send_of base tables.now roles sender receiver label payload) given }
-{
-    if given.whole {
-        return given
-            .state
-            .send(tables, roles, sender, receiver, label, payload);
-    }
-    refused(given.state, tables, roles)
-}
-
-fn received(given: Given, tables: &[u16], roles: usize, sender: usize, receiver: usize) -> Answer
-    ensures { result ≡ given_call base tables.now roles (receive_of base tables.now roles sender receiver) given }
-{
-    if given.whole {
-        return given.state.receive(tables, roles, sender, receiver);
-    }
-    refused(given.state, tables, roles)
 }
 
 // Opens a table; the place goes to `place`.
@@ -98,10 +49,12 @@ pub extern "C" fn gaugetwinkle_fresh(
     ensures { Handed (fresh_lent base tables.now roles heads.old counts.old labels.old payloads.old)
         result heads.new counts.new labels.new payloads.new }
 {
-    let given = lent::read_in(heads, counts, labels, payloads);
-    let answer = made(given, tables, roles);
+    if lent::read_in(heads, counts, labels, payloads).is_none() {
+        return wrong_number(tables, roles);
+    }
+    let answer = Session::fresh(tables, roles);
     lent::put_back(answer.state, heads, counts, labels, payloads);
-    answer.number
+    answer.number()
 }
 
 // A send; what it offers goes to `offered`.
@@ -122,11 +75,14 @@ pub extern "C" fn gaugetwinkle_send(
     ensures { Answered (send_lent base tables.now roles sender receiver label payload heads.old counts.old labels.old payloads.old)
         result offered.new heads.new counts.new labels.new payloads.new }
 {
-    let given = lent::read_in(heads, counts, labels, payloads);
-    let answer = sent(given, tables, roles, sender, receiver, label, payload);
-    *offered = answer.offered;
+    let Some(state) = lent::read_in(heads, counts, labels, payloads) else {
+        *offered = Session::NOLABEL;
+        return wrong_number(tables, roles);
+    };
+    let answer = state.send(tables, roles, sender, receiver, label, payload);
+    *offered = answer.offered();
     lent::put_back(answer.state, heads, counts, labels, payloads);
-    answer.number
+    answer.number()
 }
 
 // A receive; its label, its payload and what it offers go to `label`, `payload` and `offered`.
@@ -147,13 +103,19 @@ pub extern "C" fn gaugetwinkle_receive(
     ensures { Delivered (receive_lent base tables.now roles sender receiver heads.old counts.old labels.old payloads.old)
         result label.new payload.new offered.new heads.new counts.new labels.new payloads.new }
 {
-    let given = lent::read_in(heads, counts, labels, payloads);
-    let answer = received(given, tables, roles, sender, receiver);
-    *label = answer.label;
-    *payload = answer.payload;
-    *offered = answer.offered;
+    let Some(state) = lent::read_in(heads, counts, labels, payloads) else {
+        *label = 0;
+        *payload = 0;
+        *offered = Session::NOLABEL;
+        return wrong_number(tables, roles);
+    };
+    let answer = state.receive(tables, roles, sender, receiver);
+    let message = answer.result.unwrap_or(Message::NONE);
+    *label = message.label;
+    *payload = message.payload;
+    *offered = answer.offered();
     lent::put_back(answer.state, heads, counts, labels, payloads);
-    answer.number
+    answer.number()
 }
 
 // The awaited roles, to `set`, `count` and `lowest`.
@@ -172,16 +134,16 @@ pub extern "C" fn gaugetwinkle_awaited(
     ensures { Told (awaited_lent base tables.now roles heads.now counts.now labels.now payloads.now)
         result set.new count.new lowest.new }
 {
-    let given = lent::read_in(heads, counts, labels, payloads);
-    if given.whole {
-        let answer = given.state.awaited(tables, roles);
-        *set = answer.set;
-        *count = answer.count;
-        *lowest = answer.lowest;
-        return answer.number;
-    }
-    *set = 0;
-    *count = 0;
-    *lowest = Awaiting::NOBODY;
-    wrong_number(tables, roles)
+    let Some(state) = lent::read_in(heads, counts, labels, payloads) else {
+        *set = 0;
+        *count = 0;
+        *lowest = Awaited::NOBODY.lowest();
+        return wrong_number(tables, roles);
+    };
+    let answer = state.awaited(tables, roles);
+    let awaited = answer.result.unwrap_or(Awaited::NOBODY);
+    *set = awaited.set;
+    *count = awaited.count();
+    *lowest = awaited.lowest();
+    answer.number()
 }

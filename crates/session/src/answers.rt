@@ -26,6 +26,14 @@ pub struct Awaited {
     pub set: u8,
 }
 
+impl Message {
+    // What stands for no message.
+    pub const NONE: Message = Message {
+        label: 0,
+        payload: 0,
+    };
+}
+
 // The customer's numbers and values of an answer, for those who hand it on as numbers.
 impl<T> Answer<T> {
     // Why the call was refused, or 0 where it was accepted.

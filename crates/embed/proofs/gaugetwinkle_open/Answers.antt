@@ -1,1 +1,0 @@
--- `embed::gaugetwinkle_open` meets its contract. Assumes nothing.

@@ -1,8 +1,0 @@
--- `embed::sent` meets its contract. Assumes nothing.
-use Rattle.embed.proofs.sent.Goals as goal
-
-pub returns-then-given : goal.returns-then-given
-returns-then-given c = rw c.if-given.true c.send.ensures
-
-pub returns : goal.returns
-returns c = rw c.if-given.false c.refused.ensures
