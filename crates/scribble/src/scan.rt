@@ -1,4 +1,5 @@
 // The words of a text: where the next one starts and ends, and what it is.
+// kept: a text and a place in it are two parameters, since the place is what is asked and answered from call to call; a struct of both would be taken apart in each function.
 ghost use Rattle.std.specs.Prelude.{◌≡◌, ◌≤◌, ◌+◌, length, drop, get_or};
 ghost use Rattle.std.specs.List.{prefix_len};
 ghost use Rattle.scribble.specs.Tokens.{is_blank, in_name, gap, name_length};
