@@ -7,7 +7,7 @@ use native.Mathlib.Omega.{arith}
 use lib.Dec.{ltb, eqb}
 use lib.ListN.{length, get_or, set}
 use lib.Seq.{get_or-set_same, get_or-set_other}
-use borrow.Author.Tests.{eqb-true, eqb-false, lt-ltb, le-ltb}
+use borrow.Author.Tests.{eqb-true, eqb-false, le-ltb}
 use Rattle.words.specs.Below.{sum}
 use Rattle.words.proofs.Below.{split}
 use Rattle.hours.specs.declared.Record.{Record}
@@ -48,10 +48,7 @@ module _ (rs : List Record) (roles i : ℕ) (t : Tally) (f : Fine rs roles i t) 
   abbrev m : ℕ
   m = (at rs i).minute
 
-  pub is_early : m < t.last → earlier rs i ≡ true
-  is_early l = sym (earlier_is rs i) ∙ lt-ltb m (last_of rs i) (rw f.last at l)
-
-  pub is_late : t.last ≤ m → earlier rs i ≡ false
+  is_late : t.last ≤ m → earlier rs i ≡ false
   is_late l = sym (earlier_is rs i) ∙ le-ltb m (last_of rs i) (rw f.last at l)
 
   -- the tally of one record more

@@ -2,6 +2,7 @@ pub mod Records
 pub mod Figures
 pub mod Report
 pub mod Said
+pub mod Reasons
 pub mod Arrays
 pub mod Promises
 pub mod Accounts

@@ -44,12 +44,20 @@ impl From<Refusal> for u8 {
 
 // The reason for a person.
 impl fmt::Display for Refusal {
+    ghost use Rattle.std.specs.Prelude.{Some};
+    ghost use Rattle.hours.specs.Reasons.{reason_of};
+
+    ghost output = { λ refusal. Some (reason_of refusal) };
+
     fn fmt<W: fmt::Write>(&self, f: &mut fmt::Formatter<W>) -> fmt::Result {
         match self {
             Refusal::Roles => write!(f, "the role count"),
             Refusal::Records => write!(f, "too many records"),
             Refusal::Minute(place) => write!(f, "record {place} is earlier than the one before"),
-            Refusal::Set(place) => write!(f, "record {place} awaits a role that is not in the session"),
+            Refusal::Set(place) => write!(
+                f,
+                "record {place} awaits a role that is not in the session"
+            ),
         }
     }
 }
