@@ -1,5 +1,6 @@
 -- What `merge::join` leaves on the stack. Assumes nothing.
 use Prim.Native.Nat.{ℕ, ◌+◌, ◌*◌, ◌≤◌}
+use mathlib.Core.Bool.{true≢false}
 use mathlib.Core.List.{List, ◌++◌, append_assoc}
 use mathlib.Core.Option.{Option, none, some}
 use mathlib.Core.Path.{◌≡◌, refl, sym, ◌∙◌, ap}
@@ -10,24 +11,22 @@ use Rattle.parts.specs.Part.{Part}
 use Rattle.parts.specs.Merge.{merge}
 use Rattle.parts.specs.Layout.{size}
 use Rattle.parts.specs.mirror.Codes.{codes}
-use Rattle.merge.specs.mirror.Merging.{Join, join_of}
+use Rattle.merge.specs.mirror.Merging.{Join, Joined, joined_of, join_of}
 use Rattle.parts.specs.mirror.Rising.{Rising}
 use Rattle.projection.specs.mirror.Projects.{Stack, Space, Outcome, fails, puts}
-use Rattle.merge.specs.declared.Joined.{Joined}
-use Rattle.projection.specs.declared.Projected.{Projected}
+use Rattle.merge.specs.declared.NoMerge.{NoMerge}
+use Rattle.std.specs.Prelude.{Result, Ok, Err}
+use Rattle.std.specs.Prelude.{Option as Maybe}
+use Rattle.std.specs.Result.{result_ok}
 use Rattle.parts.proofs.Sizes.{words_twice, merge_words}
 use Rattle.parts.proofs.Words.{Stands, stands_slice}
 use Rattle.merge.proofs.Joins as join
 
--- the same answer as a part's
-abbrev pub answer : Joined → Projected
-answer j = record { ok = j.ok; at = j.at }
-
 -- the two last parts of the stack are replaced by their merge
-abbrev pub Joins : List ℕ → List ℕ → ℕ → ℕ → List ℕ → Joined → Type 0
+abbrev pub Joins : List ℕ → List ℕ → ℕ → ℕ → List ℕ → Maybe ℕ → Type 0
 Joins work spare a b work' res =
     (s : List ℕ) (P Q : Part) (e : ℕ) → Rising P → Rising Q → a ≡ length s → b ≡ length (s ++ codes P)
-    → Stack work e (s ++ codes P ++ codes Q) → Space ((size P + size Q) * 2) a work spare → Outcome codes s work' (answer res) (merge P Q)
+    → Stack work e (s ++ codes P ++ codes Q) → Space ((size P + size Q) * 2) a work spare → Outcome codes s work' res (merge P Q)
 
 -- words between others
 pub between : (s ws rest work : List ℕ) (a : ℕ) → a ≡ length s → work ≡ s ++ ws ++ rest → Stands work a ws
@@ -43,13 +42,15 @@ stored work s a ws rest e is fits = record {
   height = omega (arith, length-append s ws);
 }
 
-outcome : {X : Type 0} (f : X → List ℕ) (work s rest : List ℕ) (a : ℕ) (o : Option X) (j : Join) {r : Joined} {work' : List ℕ} → r ≡ j.res → work' ≡ j.work
-    → a ≡ length s → work ≡ s ++ rest → ((x : X) → o ≡ some x → a + length (f x) ≤ length work) → join.Joins f work a o j → Outcome f s work' (answer r) o
-outcome f work s rest a none j er ew e is fits h = fails (ap (λ (x : Joined). x.ok) er ∙ h)
-outcome f work s rest a (some x) j er ew e is fits h =
-    let k = stored work s a (f x) rest e is (fits x refl) in
-    let i = er ∙ h.0 in
-    puts {x = x} (ap (λ (y : Joined). y.ok) i) (rw (ew ∙ h.1, i) k)
+outcome : {X : Type 0} (f : X → List ℕ) (work s rest : List ℕ) (a : ℕ) (o : Option X) (j : Join) (r : Result ℕ NoMerge) {work' : List ℕ} → joined_of r ≡ j.res
+    → work' ≡ j.work → a ≡ length s → work ≡ s ++ rest → ((x : X) → o ≡ some x → a + length (f x) ≤ length work) → join.Joins f work a o j
+    → Outcome f s work' (result_ok r) o
+outcome f work s rest a none j (Ok x) er ew e is fits h = absurd (true≢false (ap (λ (x : Joined). x.ok) er ∙ h))
+outcome f work s rest a none j (Err m) er ew e is fits h = fails refl
+outcome f work s rest a (some y) j (Ok x) er ew e is fits h =
+    let k = stored work s a (f y) rest e is (fits y refl) in
+    puts {x = y} refl (rw (ew ∙ h.1, ap (λ (x : Joined). x.at) (er ∙ h.0)) k)
+outcome f work s rest a (some y) j (Err m) er ew e is fits h = absurd (true≢false (sym (ap (λ (x : Joined). x.ok) (er ∙ h.0))))
 
 -- two lists of words, the last on the stack
 module _ (s us vs : List ℕ) {work : List ℕ} {a b e : ℕ} (at : a ≡ length s) (bt : b ≡ length (s ++ us)) (k : Stack work e (s ++ us ++ vs)) where
@@ -65,15 +66,16 @@ module _ (s us vs : List ℕ) {work : List ℕ} {a b e : ℕ} (at : a ≡ length
   both_fit : a + (length us + length vs) ≤ length work
   both_fit = omega (arith, ap length k.is, length-append (s ++ us ++ vs) k.rest, length-append (s ++ us) vs, length-append s us)
 
-pub joins_is : {work spare work' spare' : List ℕ} {a b : ℕ} {r : Joined}
-    → (r ≡ (join_of work spare a b).res) × (work' ≡ (join_of work spare a b).work) × (spare' ≡ (join_of work spare a b).spare)
-    → Joins work spare a b work' r
-joins_is {work} {spare} {work'} {a = a} {b = b} (er, ew, es) s P Q e p q at bt k sp =
+pub joins_is : {work spare work' spare' : List ℕ} {a b : ℕ} (r : Result ℕ NoMerge) {res : Maybe ℕ}
+    → (joined_of r ≡ (join_of work spare a b).res) × (work' ≡ (join_of work spare a b).work) × (spare' ≡ (join_of work spare a b).spare)
+    → res ≡ result_ok r → Joins work spare a b work' res
+joins_is {work} {spare} {work'} {a = a} {b = b} r (er, ew, es) is s P Q e p q at bt k sp =
     let l = both_fit s (codes P) (codes Q) at bt k in
     let m = words_twice P in
     let n = words_twice Q in
     let z = length-append s (codes P) in
-    outcome codes work s (codes P ++ codes Q ++ k.rest) a (merge P Q) (join_of work spare a b) er ew at (below s (codes P) (codes Q) at bt k)
+    rw is
+    (outcome codes work s (codes P ++ codes Q ++ k.rest) a (merge P Q) (join_of work spare a b) r er ew at (below s (codes P) (codes Q) at bt k)
     (λ M f. omega (arith, merge_words P Q f))
     (join.join_is P Q work spare a b p q (first s (codes P) (codes Q) at bt k) (second s (codes P) (codes Q) at bt k) (omega (arith, sp.few)) (omega (arith, l))
-    (omega (arith, sp.spares)) l)
+    (omega (arith, sp.spares)) l))

@@ -1,9 +1,9 @@
 -- The parts of a table that the check accepts, one after the other on the stack. Assumes nothing.
 use Prim.Native.Nat.{ℕ, ◌+◌, ◌*◌, ◌<◌, ◌≤◌}
-use mathlib.Core.Bool.{true, false, true≢false}
+use mathlib.Core.Bool.{true, false}
 use mathlib.Core.List.{List, [], ◌++◌}
 use mathlib.Core.Option.{Option, none, some}
-use mathlib.Core.Path.{◌≡◌, refl, sym, ◌∙◌, ap}
+use mathlib.Core.Path.{◌≡◌, refl, sym, ap, subst}
 use native.Mathlib.Nat.{mul-le-mul, mul-le-mul_right, suc-mul}
 use native.Mathlib.Numerals.{add-one}
 use native.Mathlib.Omega.{arith}
@@ -28,9 +28,11 @@ use Rattle.parts.proofs.Rising.{holds_some}
 use Rattle.parts.proofs.Laws.{part_size}
 use Rattle.parts.proofs.Sizes.{words_twice}
 use Rattle.projection.specs.mirror.Projects.{SMALL, Coded, s_end, s_exchange, s_loop, s_back, CodedArms, s_nil, s_arm, Stack, Outcome, fails, puts, Projects, words_of, parts_words, Prepared}
-use Rattle.projection.specs.declared.Projected.{Projected}
+use Rattle.projection.specs.declared.Projection.{Projection}
+use Rattle.std.specs.Prelude.{Some, None}
+use Rattle.std.specs.Prelude.{Option as Maybe}
 use Rattle.projection.proofs.Join.{between}
-use Rattle.projection.proofs.Steps.{restack}
+use Rattle.projection.proofs.Steps.{restack, none_some, some_same}
 use borrow.Author.Count.{below_none, below_more}
 
 -- a tree of so few rows has small depths
@@ -83,9 +85,15 @@ pub upto_none : (t work : List ℕ) → Upto t 0 work 0
 unfolding parts_words
 upto_none t work = record { stack = record { rest = work; is = refl; height = refl }; low = omega arith; each = below_none _ }
 
-module _ {t kept order : List ℕ} {roles k at : ℕ} {work₀ spare₀ work spare work' : List ℕ} {res : Projected} (l : k < roles)
-    (p : Prepared t kept order roles work₀ spare₀) (lw : length work ≡ length work₀) (ls : length spare ≡ length spare₀) (u : Upto t k work at)
-    (h : Projects k t kept order (rows_of t) 0 work at spare work' res) where
+module _ (v : Projection) {roles at : ℕ} {work₀ spare₀ work spare work' : List ℕ} {res : Maybe ℕ} (l : v.role < roles)
+    (p : Prepared v.table.now v.kept.now v.order.now roles work₀ spare₀) (lw : length work ≡ length work₀) (ls : length spare ≡ length spare₀)
+    (u : Upto v.table.now v.role work at) (h : Projects v (rows_of v.table.now) 0 work at spare work' res) where
+  abbrev t : List ℕ
+  t = v.table.now
+
+  abbrev k : ℕ
+  k = v.role
+
   -- the parts before this one and this one have room
   room : at + rows_of t * 2 ≤ length work
   room = omega (arith, u.low, p.fits, suc-mul k (rows_of t * 2), mul-le-mul_right (rows_of t * 2) l)
@@ -98,29 +106,31 @@ module _ {t kept order : List ℕ} {roles k at : ℕ} {work₀ spare₀ work spa
       h.gives (tree_of t) (parts_words t k) (record { role = omega arith; keeps = p.keeps; orders = p.orders }) s.grows s.fits s.good s.small u.stack
       (record { fits = omega (arith, room, s.fits); spares = omega (arith, p.spares, s.fits); few = omega (arith, s.fits, s.few) })
 
-  pub lacking : res.ok ≡ false → present (part_of t k) ≡ false
+  pub lacking : res ≡ None → present (part_of t k) ≡ false
   lacking e = go (part_of t k) found
     where
       go : (o : Option Part) → Outcome codes (parts_words t k) work' res o → present o ≡ false
       go none (fails f) = refl
-      go (some P) (puts f s) = absurd (true≢false (sym f ∙ e))
+      go (some P) (puts f s) = absurd (none_some e f)
 
   rows : (P : Part) → part_of t k ≡ some P → size P ≤ rows_of t
   unfolding part_of
   rows P q = omega (arith, holds_some (part_size {A = ℕ} k (tree_of t)) q, (sound t roles p.checked).fits)
 
-  pub upto_more : res.ok ≡ true → Upto t (k + 1) work' res.at
+  pub upto_more : {d : ℕ} → res ≡ Some d → Upto t (k + 1) work' d
   unfolding parts_words
-  upto_more e = go (part_of t k) refl found
+  upto_more {d} e = go (part_of t k) refl found
     where
-      go : (o : Option Part) → part_of t k ≡ o → Outcome codes (parts_words t k) work' res o → Upto t (k + 1) work' res.at
-      go none q (fails f) = absurd (true≢false (sym e ∙ f))
-      go (some P) q (puts f s) = record {
-        stack = rw (add-one k) (restack (ap (λ (x : List ℕ). parts_words t k ++ x) (sym (ap words_of q))) s);
-        low = rw (add-one k)
-            (omega (arith, u.low, u.stack.height, s.height, length-append (parts_words t k) (codes P), words_twice P, suc-mul k (rows_of t * 2), rows P q));
-        each = below_more _ _ u.each (ap present q);
-      }
+      go : (o : Option Part) → part_of t k ≡ o → Outcome codes (parts_words t k) work' res o → Upto t (k + 1) work' d
+      go none q (fails f) = absurd (none_some f e)
+      go (some P) q (puts f s₀) =
+          let s = subst (λ (x : ℕ). Stack work' x (parts_words t k ++ codes P)) (some_same f e) s₀ in
+          record {
+            stack = rw (add-one k) (restack (ap (λ (x : List ℕ). parts_words t k ++ x) (sym (ap words_of q))) s);
+            low = rw (add-one k)
+                (omega (arith, u.low, u.stack.height, s.height, length-append (parts_words t k) (codes P), words_twice P, suc-mul k (rows_of t * 2), rows P q));
+            each = below_more _ _ u.each (ap present q);
+          }
 
 -- every role has a part
 pub upto_all : {t : List ℕ} {k : ℕ} {work : List ℕ} {at : ℕ} → Upto t k work at → Stands work 0 (parts_words t k)

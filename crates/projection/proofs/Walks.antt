@@ -1,15 +1,11 @@
 -- Rows that lead on to one other row: the part of the one is that of the other, with words before and marks behind. Assumes nothing.
-use Prim.Native.Nat.{ℕ, zero, suc, ◌+◌, ◌*◌, ◌<◌, ◌≤◌}
-use mathlib.Core.Bool.{Bool, true, false, not, ◌&&◌, ◌||◌, true≢false}
+use Prim.Native.Nat.{ℕ, suc, ◌+◌, ◌*◌, ◌<◌, ◌≤◌}
+use mathlib.Core.Bool.{true, ◌||◌}
 use mathlib.Core.List.{List, [], ◌∷◌, ◌++◌, append_assoc, append-nil}
-use mathlib.Core.Logic.{◌≢◌}
 use mathlib.Core.Option.{Option, none, some, bind}
 use mathlib.Core.Path.{◌≡◌, refl, sym, ◌∙◌, ap, subst}
 use native.Mathlib.Omega.{arith}
-use lib.Dec.{eqb}
 use lib.ListN.{length, get_or, length-append, length-replicate, replicate-append-replicate}
-use borrow.Author.Tests.{eqb-true, not-true, not-false}
-use Rattle.words.proofs.Below.{and_both}
 use Rattle.words.specs.Rows.{word}
 use Rattle.table.specs.Tree.{Global, exchange, loop, Arms, nil, arm, rows_in, rows_in_arms}
 use Rattle.table.specs.mirror.Kept.{Good, g_exchange, g_loop, g_arm}
@@ -23,12 +19,17 @@ use Rattle.parts.proofs.Laws.{part_size}
 use Rattle.parts.proofs.Rising.{holds_some}
 use Rattle.parts.proofs.Sizes.{words_twice}
 use Rattle.projection.specs.mirror.Orders.{Listed, listed_none, listed_arm}
-use Rattle.projection.specs.mirror.Projects.{Coded, s_exchange, s_loop, s_arm, Plain, plain_arm, Stack, Pushed, Outcome, fails, puts, SMALL, Known, Planned, ArmRead, leads_on, marks, Wraps, wraps_none, wraps_some, Within, Enters, Walks, Closed, Chooses, Projects}
+use Rattle.projection.specs.mirror.Projects.{Coded, s_exchange, s_loop, s_arm, Plain, plain_arm, Stack, Pushed, Outcome, fails, puts, SMALL, PlannedBy, Known, Planned, ArmRead, marks, Wraps, wraps_none, wraps_some, Within, Enters, Walks, Closed, Chooses, Projects}
 use Rattle.projection.specs.declared.Arm.{Arm}
-use Rattle.projection.specs.declared.Projected.{Projected}
+use Rattle.projection.specs.declared.Plan.{Plan}
+use Rattle.projection.specs.declared.Plan.TheVariants.{Body, Action, Others}
+use Rattle.projection.specs.declared.Projection.{Projection}
 use Rattle.projection.specs.declared.Step.{Step}
 use Rattle.projection.specs.declared.Way.{Way}
-use Rattle.projection.proofs.Steps.{rows_positive, restack, space_within, ordered_plain, more_than_two, others}
+use Rattle.projection.proofs.Steps.{none_some, some_same, rows_positive, restack, space_within, ordered_plain, arm_there}
+use Rattle.std.specs.Prelude.{Some, None}
+use Rattle.std.specs.Prelude.{Option as Maybe}
+use Rattle.std.proofs.lemmas.Option.{none-some, same_Some}
 
 -- ---- words before a part and marks behind it
 
@@ -78,20 +79,44 @@ inside_loop : {r left : ℕ} {B : Global ℕ} → (takes_part r B || leaves 1 B)
 unfolding rows_in
 inside_loop {r} {B = B} takes f (g_loop g) (s_loop m) = record { good = g; small = m; wraps = wraps_loop r B takes; rows = omega arith; fits = omega arith }
 
-pub enter_loop : {t : List ℕ} {w next : ℕ} {work work' : List ℕ} {at e : ℕ} → Pushed work at w work' e
-    → Enters t 1 w next work at work' (record { row = next; at = e; marks = 0 })
-enter_loop {work = work} {work'} {at} {e} push = record {
-  few = omega arith;
-  gives = λ r order G left s on by f g m k room.
-      let (B, is, grows, takes, word_is) = by in
-      let top = push.gives s k (omega (arith, rows_positive G)) in (
-        B,
-        code 3 0 ∷ [],
-        grows,
-        subst (λ (x : ℕ). Stack work' e (s ++ x ∷ [])) word_is top,
-        subst (λ (X : Global ℕ). Within r X left (code 3 0 ∷ []) 0 B) (sym is) (inside_loop takes (rw is at f) (rw is at g) (rw is at m)),
-      );
+-- a step that was taken, from what it gives
+entered : {v : Projection} {plan : Plan} {work work' : List ℕ} {at : ℕ} (e : Step) → e.marks ≤ 1
+    → ((G : Global ℕ) (left : ℕ) (s : List ℕ) → PlannedBy plan v G → rows_in G ≤ suc left → Good G → Coded G
+    → Stack work at s → at + rows_in G * 2 ≤ length work
+    → (B : Global ℕ) × (ws : List ℕ) × Grows v.table.now e.row B × Stack work' e.at (s ++ ws) × Within v.role G left ws e.marks B)
+    → Enters v plan work at work' (Some e)
+entered {v} {plan} {work} {work'} {at} e few gives = record {
+  stays = λ n. absurd (none-some e (sym n));
+  few = λ d is. subst (λ (x : Step). x.marks ≤ 1) (same_Some e d is) few;
+  gives = λ d is.
+      subst
+      (λ (x : Step). (G : Global ℕ) (left : ℕ) (s : List ℕ) → PlannedBy plan v G → rows_in G ≤ suc left → Good G → Coded G
+      → Stack work at s → at + rows_in G * 2 ≤ length work
+      → (B : Global ℕ) × (ws : List ℕ) × Grows v.table.now x.row B × Stack work' x.at (s ++ ws) × Within v.role G left ws x.marks B)
+      (same_Some e d is) gives;
 }
+
+-- a plan that leads on to no single row
+pub enter_none : {v : Projection} {plan : Plan} {work : List ℕ} {at : ℕ} → Enters v plan work at work None
+enter_none = record {
+  stays = λ n. refl;
+  few = λ e is. absurd (none-some e is);
+  gives = λ e is. absurd (none-some e is);
+}
+
+pub enter_loop : {v : Projection} {w next : ℕ} {work work' : List ℕ} {at e : ℕ} → Pushed work at w work' e
+    → Enters v (Body w next) work at work' (Some (record { row = next; at = e; marks = 0 }))
+enter_loop {v} {work = work} {work'} {at} {e} push =
+    entered (record { row = _; at = e; marks = 0 }) (omega arith)
+    (λ G left s by f g m k room.
+    let (B, is, grows, takes, word_is) = by in
+    let top = push.gives s k (omega (arith, rows_positive G)) in (
+      B,
+      code 3 0 ∷ [],
+      grows,
+      subst (λ (x : ℕ). Stack work' e (s ++ x ∷ [])) word_is top,
+      subst (λ (X : Global ℕ). Within v.role X left (code 3 0 ∷ []) 0 B) (sym is) (inside_loop takes (rw is at f) (rw is at g) (rw is at m)),
+    ))
 
 -- the only arm of an action of the role's own
 wraps_sole : (r p q l w : ℕ) (cs : Arms ℕ) (B : Global ℕ) (act : PartArms → Part) → ((ps : PartArms) → part_exchange r p q ps ≡ some (act (rising ps)))
@@ -122,30 +147,32 @@ none_listed : {t order : List ℕ} {i : ℕ} {cs : Arms ℕ} → Listed t order 
 none_listed listed_none e = refl
 none_listed (listed_arm h j a b d g x) e = absurd (omega arith)
 
-only_arm : {t order : List ℕ} {i : ℕ} {cs : Arms ℕ} → Listed t order i cs → (not (eqb i 0) && eqb (get_or order i 0) 0) ≡ true
-    → (l : ℕ) × (B : Global ℕ) × (cs ≡ arm l B nil) × (word t i 1 ≡ l) × Grows t (word t i 2) B
-only_arm listed_none on = absurd (true≢false (sym on))
-only_arm {order = order} {i} (listed_arm {l = l} {G = B} h j a b d g x) on =
-    let last = (and_both (not (eqb i 0)) (eqb (get_or order i 0) 0) on).1 in
-    (l, B, ap (arm l B) (none_listed x (eqb-true (get_or order i 0) 0 last)), b, rw d g)
+only_arm : {t order : List ℕ} {i : ℕ} {cs : Arms ℕ} → Listed t order i cs → (i ≡ 0 → ⊥) → get_or order i 0 ≡ 0
+    → (l : ℕ) × (B : Global ℕ) × (cs ≡ arm l B nil) × (word t i 0 ≡ 2) × (word t i 1 ≡ l) × Grows t (word t i 2) B
+only_arm listed_none on last = absurd (on refl)
+only_arm (listed_arm {l = l} {G = B} h j a b d g x) on last = (l, B, ap (arm l B) (none_listed x last), a, b, rw d g)
 
-pub enter_sole : {t : List ℕ} {w next : ℕ} {work work₁ work₂ : List ℕ} {at e₁ e₂ : ℕ} (a : Arm) → ArmRead t next a → Pushed work at w work₁ e₁
-    → Pushed work₁ e₁ a.word work₂ e₂ → length work₁ ≡ length work → Enters t 2 w next work at work₂ (record { row = a.cont; at = e₂; marks = 1 })
+pub enter_sole : {v : Projection} {w next n : ℕ} {work work₁ work₂ : List ℕ} {at e₁ e₂ : ℕ} (a : Arm) {read : Maybe Arm} → (next ≡ 0 → ⊥) → n ≡ 0
+    → n ≡ get_or v.order.now next 0 → ArmRead v.table.now next read → read ≡ Some a → Pushed work at w work₁ e₁
+    → Pushed work₁ e₁ a.word work₂ e₂ → length work₁ ≡ length work → Enters v (Action w next) work at work₂ (Some (record { row = a.then; at = e₂; marks = 1 }))
 unfolding rows_in rows_in_arms
-enter_sole {t} {w} {next} {work} {work₁} {work₂} {at} {e₁} {e₂} a read push₁ push₂ len = record {
-  few = omega arith;
-  gives = λ r order G left s on by f g m k room.
-      let (p, q, cs, act, is, listed, ex, words) = by in
-      let (l, B, one, label, grows) = only_arm listed on in
-      let plain = arms (rw is at g) (rw is at m) one in
-      let put = stack p q cs (read.word_is (rw label (plain_label plain)) ∙ ap (code 2) label) (rw is at room) one s k in (
-        B,
-        w ∷ code 2 l ∷ [],
-        rw read.cont_is grows,
-        put,
-        subst (λ (X : Global ℕ). Within r X left (w ∷ code 2 l ∷ []) 1 B) (sym is) (inside_sole {p = p} {q = q} act ex words one plain (rw is at f)),
-      );
-}
+enter_sole {v} {w} {next} {n} {work} {work₁} {work₂} {at} {e₁} {e₂} a {read} on last en is ea push₁ push₂ len =
+    entered (record { row = a.then; at = e₂; marks = 1 }) (omega arith)
+    (λ G left s by f g m k room.
+    let (p, q, cs, act, is_exchange, listed, ex, words) = by in
+    let (l, B, one, kind, label, grows) = only_arm listed on (sym en ∙ last) in
+    let (c, ec, word_is, then_is, next_is) = arm_there is kind in
+    let same : c ≡ a = some_same ec ea in
+    let plain = arms (rw is_exchange at g) (rw is_exchange at m) one in
+    let as_word : a.word ≡ code 2 l = rw same at (word_is (rw label (plain_label plain))) ∙ ap (code 2) label in
+    let as_then : a.then ≡ word v.table.now next 2 = rw same at then_is in
+    let put = stack p q cs as_word (rw is_exchange at room) one s k in (
+      B,
+      w ∷ code 2 l ∷ [],
+      rw as_then grows,
+      put,
+      subst (λ (X : Global ℕ). Within v.role X left (w ∷ code 2 l ∷ []) 1 B) (sym is_exchange) (inside_sole {p = p} {q = q} act ex words one plain (rw is_exchange at f)),
+    ))
   where
     arms : {p q l : ℕ} {cs : Arms ℕ} {B : Global ℕ} → Good (exchange p q cs) → Coded (exchange p q cs) → ordered cs ≡ arm l B nil → Plain (arm l B nil)
     arms (g_exchange x y gs) (s_exchange u v ms) one = subst Plain one (ordered_plain gs ms)
@@ -178,80 +205,73 @@ inside_passed {r} {p} {q} (chain_last {l = l} {G = B} a b c d e grows) last ex f
     (B, rw d grows, record { good = good; small = small; wraps = wraps_same (sole_part r p q l B ex); rows = omega arith; fits = omega arith })
 inside_passed (chain_more a b c d e n grows chain) last ex f g m = absurd (omega arith)
 
--- a plan with no case of its own leads on where its chain ends
-pub leads_others : (t order : List ℕ) (i k : ℕ) → 2 < k → eqb (word t i 3) 0 ≡ leads_on t order k i
-leads_others t order i zero l = absurd (omega arith)
-leads_others t order i (suc zero) l = absurd (omega arith)
-leads_others t order i (suc (suc zero)) l = absurd (omega arith)
-leads_others t order i (suc (suc (suc k))) l = refl
+chain_kind : {t : List ℕ} {i : ℕ} {cs : Arms ℕ} → Chain t i cs → word t i 0 ≡ 2
+chain_kind (chain_last h a b c d g) = a
+chain_kind (chain_more h a b c d m g x) = a
 
--- a leaf leads nowhere
-no_leaf : (t order : List ℕ) (i k : ℕ) → leads_on t order k i ≡ true → k ≢ 0
-no_leaf t order i k on e = true≢false (sym (rw e at on))
-
-pub enter_passed : {t : List ℕ} {k w next row : ℕ} {work : List ℕ} {at : ℕ} → k ≢ 1 → k ≢ 2 → row ≡ word t next 2
-    → Enters t k w next work at work (record { row = row; at = at; marks = 0 })
-enter_passed {t} {k} {w} {next} {row} {work} {at} not_loop not_own row_is = record {
-  few = omega arith;
-  gives = λ r order G left s on by f g m stack room.
-      let l = more_than_two k (no_leaf t order next k on) not_loop not_own in
-      let (p, q, cs, is, chain, ex) = others r t order G w next k l by in
-      let last = eqb-true (word t next 3) 0 (leads_others t order next k l ∙ on) in
-      let (B, grows, inside) = inside_passed {p = p} {q = q} chain last ex (rw is at f) (rw is at g) (rw is at m) in
-      (B, [], rw row_is grows, restack (sym (append-nil s)) stack, subst (λ (X : Global ℕ). Within r X left [] 0 B) (sym is) inside);
-}
+pub enter_passed : {v : Projection} {next : ℕ} {work : List ℕ} {at : ℕ} (a : Arm) {read : Maybe Arm} → ArmRead v.table.now next read → read ≡ Some a → a.next ≡ 0
+    → Enters v (Others next) work at work (Some (record { row = a.then; at = at; marks = 0 }))
+enter_passed {v} {next} {work} {at} a is ea last =
+    entered (record { row = a.then; at = at; marks = 0 }) (omega arith)
+    (λ G left s by f g m stack room.
+    let (p, q, cs, is_exchange, chain, ex) = by in
+    let (c, ec, word_is, then_is, next_is) = arm_there is (chain_kind chain) in
+    let same : c ≡ a = some_same ec ea in
+    let as_then : a.then ≡ word v.table.now next 2 = rw same at then_is in
+    let as_next : a.next ≡ word v.table.now next 3 = rw same at next_is in
+    let (B, grows, inside) = inside_passed {p = p} {q = q} chain (sym as_next ∙ last) ex (rw is_exchange at f) (rw is_exchange at g) (rw is_exchange at m) in
+    (B, [], subst (λ (x : ℕ). Grows v.table.now x B) (sym as_then) grows, restack (sym (append-nil s)) stack, subst (λ (X : Global ℕ). Within v.role X left [] 0 B) (sym is_exchange) inside))
 
 -- ---- the walk
 
 -- the tree of the row here is below that of row i, with words and marks around its part, and so many links are left for it
-pub record Comes (r : ℕ) (t kept order : List ℕ) (left i : ℕ) (work₀ : List ℕ) (at : ℕ) (here : ℕ) (work : List ℕ) (top n more : ℕ) : Type 0 where
+pub record Comes (v : Projection) (left i : ℕ) (work₀ : List ℕ) (at : ℕ) (here : ℕ) (work : List ℕ) (top n more : ℕ) : Type 0 where
   pub long : length work ≡ length work₀
   pub within : n + more ≤ left
-  pub gives : (G : Global ℕ) (s : List ℕ) → Known r t kept order → Grows t i G → rows_in G ≤ left → Good G → Coded G → Stack work₀ at s
-      → at + rows_in G * 2 ≤ length work₀ → (B : Global ℕ) × (ws : List ℕ) × Grows t here B × Stack work top (s ++ ws) × Within r G more ws n B
+  pub gives : (G : Global ℕ) (s : List ℕ) → Known v → Grows v.table.now i G → rows_in G ≤ left → Good G → Coded G → Stack work₀ at s
+      → at + rows_in G * 2 ≤ length work₀ → (B : Global ℕ) × (ws : List ℕ) × Grows v.table.now here B × Stack work top (s ++ ws) × Within v.role G more ws n B
 
-pub comes_start : (r : ℕ) (t kept order : List ℕ) (left i : ℕ) (work : List ℕ) (at : ℕ) → Comes r t kept order left i work at i work at 0 left
-comes_start r t kept order left i work at = record {
+pub comes_start : (v : Projection) (left i : ℕ) (work : List ℕ) (at : ℕ) → Comes v left i work at i work at 0 left
+comes_start v left i work at = record {
   long = refl;
   within = omega arith;
-  gives = λ G s o h f g m k room. (G, [], h, restack (sym (append-nil s)) k, inside_start r f g m);
+  gives = λ G s o h f g m k room. (G, [], h, restack (sym (append-nil s)) k, inside_start v.role f g m);
 }
 
-pub comes_on : {r : ℕ} {t kept order : List ℕ} {left i here w next k at top n more less : ℕ} {work₀ work work' : List ℕ} {e : Step} {b : Bool}
-    → Comes r t kept order left i work₀ at here work top n more → Planned k r t kept order here w next → b ≡ leads_on t order k next → not b ≡ false
-    → Enters t k w next work top work' e → length work' ≡ length work → more ≡ suc less
-    → Comes r t kept order left i work₀ at e.row work' e.at (n + e.marks) less
-comes_on {r} {order = order} {less = less} {work₀ = work₀} {work} {work'} {e} {b} comes plan on goes enter len el = record {
-  long = len ∙ comes.long;
-  within = omega (arith, comes.within, enter.few);
-  gives = λ G s o h f g m k room.
-      let (H, ws, grows, stack, outer) = comes.gives G s o h f g m k room in
-      let n = length-append s ws in
-      let (B, vs, grows', stack', inner) = enter.gives r order H less (s ++ ws) (sym on ∙ not-false b goes) (plan.says H o grows outer.small)
-      (rw el at outer.rows) outer.good outer.small stack
-      (omega (arith, outer.fits, comes.long, stack.height, k.height)) in
-      (B, ws ++ vs, grows', restack (append_assoc s ws vs) stack', inside_on outer inner);
-}
+pub comes_on : {v : Projection} {left i here at top n more less : ℕ} {plan : Plan} {work₀ work work' : List ℕ} {res : Maybe Step} (e : Step)
+    → Comes v left i work₀ at here work top n more → Planned v here plan → Enters v plan work top work' res → res ≡ Some e
+    → length work' ≡ length work → more ≡ suc less → Comes v left i work₀ at e.row work' e.at (n + e.marks) less
+comes_on {v} {less = less} {work₀ = work₀} {work} {work'} e comes plan enter is len el =
+    let few = enter.few e is in
+    record {
+      long = len ∙ comes.long;
+      within = omega (arith, comes.within, few);
+      gives = λ G s o h f g m k room.
+          let (H, ws, grows, stack, outer) = comes.gives G s o h f g m k room in
+          let n = length-append s ws in
+          let (B, vs, grows', stack', inner) = enter.gives e is H less (s ++ ws) (plan.says H o grows outer.small)
+          (rw el at outer.rows) outer.good outer.small stack
+          (omega (arith, outer.fits, comes.long, stack.height, k.height)) in
+          (B, ws ++ vs, grows', restack (append_assoc s ws vs) stack', inside_on outer inner);
+    }
 
 -- where the walk ends
-pub walks : {r : ℕ} {t kept order : List ℕ} {left i here w next k at top n more : ℕ} {work₀ work : List ℕ} {b : Bool}
-    → Comes r t kept order left i work₀ at here work top n more → Planned k r t kept order here w next → b ≡ leads_on t order k next → not b ≡ true
-    → Walks r t kept order left i work₀ at work (record { case = k; word = w; next = next; at = top; marks = n; left = more })
-walks {t = t} {order = order} {next = next} {k} {b = b} comes plan on stops = record {
-  no_loop = λ e. true≢false (sym (rw e at on) ∙ not-true b stops);
-  within = omega (arith, comes.within);
+pub walks : {v : Projection} {left i here at top n more less : ℕ} {plan : Plan} {work₀ work work' : List ℕ} {res : Maybe Step}
+    → Comes v left i work₀ at here work top n more → Planned v here plan → Enters v plan work top work' res → res ≡ None → more ≡ suc less
+    → Walks v left i work₀ at work' (Some (record { plan = plan; at = top; marks = n; left = less }))
+walks {v} {left} {n = n} {less = less} {plan = plan} {work} {work' = work'} comes plans enter stops el = record {
+  within = λ e is. subst (λ (x : Way). x.left < left) (same_Some _ e is) (omega (arith, comes.within));
   gives = λ G s o h f g m st room.
       let (B, ws, grows, stack, inside) = comes.gives G s o h f g m st room in
-      (B, ws, plan.says B o grows inside.small, stack, inside);
+      let same = enter.stays stops in
+      (_, B, ws, refl, plans.says B o grows inside.small, rw same stack, rw el at inside);
 }
 
 -- no tree has no rows
-pub walks_nowhere : {r : ℕ} {t kept order : List ℕ} {left i here w next at top n more : ℕ} {work₀ work : List ℕ}
-    → Comes r t kept order left i work₀ at here work top n more → more ≡ 0
-    → Walks r t kept order left i work₀ at work (record { case = 0; word = w; next = next; at = top; marks = n; left = 0 })
+pub walks_nowhere : {v : Projection} {left i here at top n more : ℕ} {work₀ work : List ℕ}
+    → Comes v left i work₀ at here work top n more → more ≡ 0 → Walks v left i work₀ at work None
 walks_nowhere comes e = record {
-  no_loop = λ z. omega arith;
-  within = omega arith;
+  within = λ d is. absurd (none-some d is);
   gives = λ G s o h f g m st room.
       let (B, ws, grows, stack, inside) = comes.gives G s o h f g m st room in
       absurd (omega (arith, rows_positive B, inside.rows));
@@ -277,27 +297,45 @@ closed_more {n} {m} {work' = work'} {at = at} {top} {e} em len closed push = rec
 pub closed_all : {n m : ℕ} {work work' : List ℕ} {at e : ℕ} → n ≡ m → Closed n work at work' e → Closed m work at work' e
 closed_all {work = work} {work'} {at} {e} h closed = subst (λ (x : ℕ). Closed x work at work' e) h closed
 
-behind : {s ws : List ℕ} {n e : ℕ} {o p : Option Part} {work work' : List ℕ} {one : Projected} → Wraps ws n o p → Closed n work one.at work' e
+-- the marks behind what a call put, or nothing where it put nothing
+pub data Marked (n : ℕ) (work work' : List ℕ) (one res : Maybe ℕ) : Type 0 where
+  unmarked : one ≡ None → res ≡ None → Marked n work work' one res
+  marked : (d e : ℕ) → one ≡ Some d → res ≡ Some e → Closed n work d work' e → Marked n work work' one res
+
+behind : {s ws : List ℕ} {n : ℕ} {o p : Option Part} {work work' : List ℕ} {one res : Maybe ℕ} → Wraps ws n o p → Marked n work work' one res
     → ((P : Part) → o ≡ some P → length (s ++ ws) + (length (codes P) + n) ≤ length work) → Outcome codes (s ++ ws) work one o
-    → Outcome codes s work' (record { ok = one.ok; at = e }) p
-behind wraps_none close room (fails h) = fails h
-behind {s} {ws} {n} (wraps_some {P = P} {Q = Q} is) close room (puts h k) =
-    puts {x = Q} h
+    → Outcome codes s work' res p
+behind wraps_none (unmarked a b) room (fails h) = fails b
+behind wraps_none (marked d e a b close) room (fails h) = absurd (none_some h a)
+behind (wraps_some is) (unmarked a b) room (puts h k) = absurd (none_some a h)
+behind {s} {ws} {n} {work = work} (wraps_some {P = P} {Q = Q} is) (marked d e a b close) room (puts h k) =
+    let k' = subst (λ (x : ℕ). Stack work x ((s ++ ws) ++ codes P)) (some_same h a) k in
+    puts {x = Q} b
     (restack (append_assoc (s ++ ws) (codes P) (marks n) ∙ append_assoc s ws (codes P ++ marks n) ∙ ap (λ (x : List ℕ). s ++ x) (sym is))
-    (close.gives ((s ++ ws) ++ codes P) k (omega (arith, room P refl, k.height, length-append (s ++ ws) (codes P)))))
+    (close.gives ((s ++ ws) ++ codes P) k' (omega (arith, room P refl, k'.height, length-append (s ++ ws) (codes P)))))
 
 -- a part is that of the plan at the end of the walk, with the marks behind it
-pub project_step : {r : ℕ} {t kept order : List ℕ} {left i : ℕ} {work work₁ work₂ work₃ spare : List ℕ} {at e : ℕ} (way : Way) {one : Projected}
-    → Walks r t kept order left i work at work₁ way
-    → (way.case ≢ 1 → Chooses way.case r t kept order way.left way.word way.next work₁ way.at spare work₂ one)
-    → Closed way.marks work₂ one.at work₃ e → length work₁ ≡ length work → length work₂ ≡ length work₁
-    → Projects r t kept order left i work at spare work₃ (record { ok = one.ok; at = e })
-project_step {r} way walk choose close len₁ len₂ = record {
+pub project_step : {v : Projection} {left i : ℕ} {work work₁ work₂ work₃ spare : List ℕ} {at : ℕ} {found : Maybe Way} (way : Way) {one res : Maybe ℕ}
+    → Walks v left i work at work₁ found → found ≡ Some way → Chooses v way.plan way.left work₁ way.at spare work₂ one
+    → Marked way.marks work₂ work₃ one res → length work₁ ≡ length work → length work₂ ≡ length work₁
+    → Projects v left i work at spare work₃ res
+project_step {v} {work₁ = work₁} {spare = spare} way {one} walk is choose mark len₁ len₂ = record {
   gives = λ G s o h f g m k sp.
-      let (B, ws, by, stack, inside) = walk.gives G s o h f g m k sp.fits in
+      let (e, B, ws, found, by, stack, inside) = walk.gives G s o h f g m k sp.fits in
+      let same : e ≡ way = some_same found is in
+      let (by', stack', inside') = subst (λ (x : Way). PlannedBy x.plan v B × Stack work₁ x.at (s ++ ws) × Within v.role G (suc x.left) ws x.marks B) same (by, stack, inside) in
       let n = length-append s ws in
-      behind {s = s} {ws = ws} inside.wraps close
-      (λ P e. let z = holds_some (part_size r B) e in let y = words_twice P in omega (arith, inside.fits, k.height, sp.fits))
-      ((choose walk.no_loop).gives B (s ++ ws) o by inside.rows inside.good inside.small stack
-      (space_within sp len₁ refl (omega (arith, inside.fits, stack.height, k.height)) (omega (arith, inside.fits))));
+      behind {s = s} {ws = ws} inside'.wraps mark
+      (λ P e. let z = holds_some (part_size v.role B) e in let y = words_twice P in omega (arith, inside'.fits, k.height, sp.fits))
+      (choose.gives B (s ++ ws) o by' inside'.rows inside'.good inside'.small stack'
+      (space_within sp len₁ refl (omega (arith, inside'.fits, stack'.height, k.height)) (omega (arith, inside'.fits))));
+}
+
+-- no link is left
+pub project_nowhere : {v : Projection} {left i : ℕ} {work work₁ work₂ spare : List ℕ} {at : ℕ} {found : Maybe Way} {res : Maybe ℕ}
+    → Walks v left i work at work₁ found → found ≡ None → Projects v left i work at spare work₂ res
+project_nowhere walk is = record {
+  gives = λ G s o h f g m k sp.
+      let (e, B, ws, found, by, stack, inside) = walk.gives G s o h f g m k sp.fits in
+      absurd (none_some is found);
 }

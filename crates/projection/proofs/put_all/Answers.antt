@@ -7,46 +7,31 @@ use Rattle.projection.proofs.Tables.{upto_none, lacking, upto_more, upto_all}
 use Rattle.projection.proofs.put_all.Goals as goal
 
 pub loop-role-init : goal.loop-role-init
-loop-role-init c = (omega arith, refl, refl, λ p. upto_none _ _)
+loop-role-init c = (refl, refl, λ p. upto_none _ _)
 
 pub loop-role-preserved : goal.loop-role-preserved
 loop-role-preserved c =
     let was = c.loop-role.invariant in (
-      omega arith,
-      c.project-part.auto.work ∙ was.1,
-      c.project-part.auto.spare ∙ was.2,
-      λ p. upto_more c.loop-role-test.true p was.1 was.2 (was.3 p) c.project-part.ensures c.if-part.true,
+      c.project.auto.work ∙ was.0,
+      c.project.auto.spare ∙ was.1,
+      λ p. upto_more _ c.loop-role-test.true p was.0 was.1 (was.2 p) c.project.ensures c.in-Some.is,
     )
 
-pub shape_of-work-else-part : goal.shape_of-work-else-part
-shape_of-work-else-part c =
-    c.project-part.auto.work ∙ c.loop-role.invariant.1
-
-pub shape_of-spare-else-part : goal.shape_of-spare-else-part
-shape_of-spare-else-part c =
-    c.project-part.auto.spare ∙ c.loop-role.invariant.2
-
-pub returns-else-part : goal.returns-else-part
-returns-else-part c = λ p.
+pub returns-in-None : goal.returns-in-None
+returns-in-None c = λ p.
     let was = c.loop-role.invariant in
     record {
       lacks =
-          sym (lowest_at _ _ _ c.loop-role-test.true (λ k l. ap not ((was.3 p).each k l))
-          (ap not (lacking c.loop-role-test.true p was.1 was.2 (was.3 p) c.project-part.ensures c.if-part.false)));
+          sym (lowest_at _ _ _ c.loop-role-test.true (λ k l. ap not ((was.2 p).each k l))
+          (ap not (lacking _ c.loop-role-test.true p was.0 was.1 (was.2 p) c.project.ensures c.in-None.is)));
       stands = λ l. absurd (omega (arith, c.loop-role-test.true));
     }
-
-pub shape_of-work : goal.shape_of-work
-shape_of-work c = c.loop-role.invariant.1
-
-pub shape_of-spare : goal.shape_of-spare
-shape_of-spare c = c.loop-role.invariant.2
 
 pub returns : goal.returns
 returns c = λ p.
     let was = c.loop-role.invariant in
-    let e : c.args.roles ≡ c.loop-role.role = omega arith in
+    let e : c.args.roles ≡ c.loop-role.role = omega (arith, c.loop-role-test.false) in
     record {
-      lacks = rw e (sym (lowest_none _ _ (λ k l. ap not ((was.3 p).each k l))));
-      stands = λ l. rw e (upto_all (was.3 p));
+      lacks = rw e (sym (lowest_none _ _ (λ k l. ap not ((was.2 p).each k l))));
+      stands = λ l. rw e (upto_all (was.2 p));
     }

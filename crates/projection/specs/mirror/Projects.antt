@@ -1,6 +1,7 @@
 -- What is promised of the projection's functions: each puts the words of a part, or of arms, on a stack, or says that there is no part.
 -- r: the role. work, work': the stack before and after. at, e: its height. Assumes nothing.
-use Rattle.std.specs.Prelude.{ℕ, zero, suc, ◌+◌, ◌*◌, ◌<◌, ◌≤◌, Bool, true, false, not, ◌&&◌, ◌||◌, List, [], ◌∷◌, ◌++◌, ◌≢◌, ◌≡◌, eqb, length, get_or, replicate}
+use Rattle.std.specs.Prelude.{ℕ, zero, suc, ◌+◌, ◌*◌, ◌<◌, ◌≤◌, true, not, ◌||◌, List, [], ◌∷◌, ◌++◌, ◌≡◌, Some, None, length, replicate}
+use Rattle.std.specs.Prelude.{Option as Maybe}
 use Rattle.std.proofs.Math.Option.{Option, none, some, bind}
 use Rattle.words.specs.Below.{lowest}
 use Rattle.words.specs.Rows.{word, rows_of}
@@ -22,8 +23,10 @@ use Rattle.parts.specs.mirror.Stands.{Stands}
 use Rattle.merge.specs.mirror.Merging.{MOST}
 use Rattle.projection.specs.mirror.Keeps.{Keeps}
 use Rattle.projection.specs.mirror.Orders.{Listed, Orders}
-use Rattle.projection.specs.declared.Projected.{Projected}
 use Rattle.projection.specs.declared.Arm.{Arm}
+use Rattle.projection.specs.declared.Plan.{Plan}
+use Rattle.projection.specs.declared.Plan.TheVariants.{Leaf, Body, Action, Others}
+use Rattle.projection.specs.declared.Projection.{Projection}
 use Rattle.projection.specs.declared.Step.{Step}
 use Rattle.projection.specs.declared.Way.{Way}
 
@@ -69,53 +72,42 @@ pub record Space (need at : ℕ) (work spare : List ℕ) : Type 0 where
 pub record Pushed (work : List ℕ) (at w : ℕ) (work' : List ℕ) (e : ℕ) : Type 0 where
   pub gives : (s : List ℕ) → Stack work at s → at < length work → Stack work' e (s ++ w ∷ [])
 
--- what a call leaves that puts the words f of something on s, or finds nothing
-pub data Outcome {X : Type 0} (f : X → List ℕ) (s work : List ℕ) (r : Projected) : Option X → Type 0 where
-  fails : r.ok ≡ false → Outcome f s work r none
-  puts : {x : X} → r.ok ≡ true → Stack work r.at (s ++ f x) → Outcome f s work r (some x)
+-- what a call leaves that puts the words f of something on s and answers the height of the stack with them, or finds nothing
+pub data Outcome {X : Type 0} (f : X → List ℕ) (s work : List ℕ) (res : Maybe ℕ) : Option X → Type 0 where
+  fails : res ≡ None → Outcome f s work res none
+  puts : {x : X} {e : ℕ} → res ≡ Some e → Stack work e (s ++ f x) → Outcome f s work res (some x)
 
 -- ---- rows
 
--- what the case k of a plan says of the tree G of a row: its part is the word w; it is a Loop that stays, around the tree of the row next; an
--- action of the role's own, whose arms in rising order start at next; an exchange of others, whose chain starts at next
-abbrev pub PlannedBy : ℕ → ℕ → List ℕ → List ℕ → Global ℕ → ℕ → ℕ → Type 0
-PlannedBy zero r t order G w next = (P : Part) × (part r G ≡ some P) × (codes P ≡ w ∷ [])
-PlannedBy (suc zero) r t order G w next =
-    (B : Global ℕ) × (G ≡ loop B) × Grows t next B × ((takes_part r B || leaves 1 B) ≡ true) × (w ≡ code 3 0)
-PlannedBy (suc (suc zero)) r t order G w next =
-    (p : ℕ) × (q : ℕ) × (cs : Arms ℕ) × (act : (PartArms → Part)) × (G ≡ exchange p q cs) × Listed t order next (ordered cs)
-    × ((ps : PartArms) → part_exchange r p q ps ≡ some (act (rising ps)))
+-- what a plan says of the tree G of a row: its part is the word w; it is a Loop that stays, around the tree of the row next; an action of the
+-- role's own, whose arms in rising order start at next; an exchange of others, whose chain starts at next
+abbrev pub PlannedBy : Plan → Projection → Global ℕ → Type 0
+PlannedBy (Leaf w) v G = (P : Part) × (part v.role G ≡ some P) × (codes P ≡ w ∷ [])
+PlannedBy (Body w next) v G =
+    (B : Global ℕ) × (G ≡ loop B) × Grows v.table.now next B × ((takes_part v.role B || leaves 1 B) ≡ true) × (w ≡ code 3 0)
+PlannedBy (Action w next) v G =
+    (p : ℕ) × (q : ℕ) × (cs : Arms ℕ) × (act : (PartArms → Part)) × (G ≡ exchange p q cs) × Listed v.table.now v.order.now next (ordered cs)
+    × ((ps : PartArms) → part_exchange v.role p q ps ≡ some (act (rising ps)))
     × ((ps : PartArms) → codes (act ps) ≡ w ∷ codes_arms ps)
-PlannedBy (suc (suc (suc k))) r t order G w next =
-    (p : ℕ) × (q : ℕ) × (cs : Arms ℕ) × (G ≡ exchange p q cs) × Chain t next cs × ((ps : PartArms) → part_exchange r p q ps ≡ merge_all ps)
+PlannedBy (Others next) v G =
+    (p : ℕ) × (q : ℕ) × (cs : Arms ℕ) × (G ≡ exchange p q cs) × Chain v.table.now next cs
+    × ((ps : PartArms) → part_exchange v.role p q ps ≡ merge_all ps)
 
 -- what is known of a table, of what is kept of its Loops and of the order of its arms, for a role
-pub record Known (r : ℕ) (t kept order : List ℕ) : Type 0 where
-  pub role : r < base.roles
-  pub keeps : Keeps t kept
-  pub orders : Orders t order
+pub record Known (v : Projection) : Type 0 where
+  pub role : v.role < base.roles
+  pub keeps : Keeps v.table.now v.kept.now
+  pub orders : Orders v.table.now v.order.now
 
-pub record Planned (k r : ℕ) (t kept order : List ℕ) (i w next : ℕ) : Type 0 where
-  pub says : (G : Global ℕ) → Known r t kept order → Grows t i G → Coded G → PlannedBy k r t order G w next
+pub record Planned (v : Projection) (i : ℕ) (plan : Plan) : Type 0 where
+  pub says : (G : Global ℕ) → Known v → Grows v.table.now i G → Coded G → PlannedBy plan v G
 
--- an arm as the code read it
-pub record ArmRead (t : List ℕ) (i : ℕ) (a : Arm) : Type 0 where
-  pub word_is : word t i 1 < SMALL → a.word ≡ code 2 (word t i 1)
-  pub cont_is : a.cont ≡ word t i 2
-  pub next_is : a.next ≡ word t i 3
+-- an arm as the code read it, where the row is one
+pub data ArmRead (t : List ℕ) (i : ℕ) (res : Maybe Arm) : Type 0 where
+  no_arm : res ≡ None → (word t i 0 ≡ 2 → ⊥) → ArmRead t i res
+  an_arm : (a : Arm) → res ≡ Some a → (word t i 1 < SMALL → a.word ≡ code 2 (word t i 1)) → a.then ≡ word t i 2 → a.next ≡ word t i 3 → ArmRead t i res
 
 -- ---- rows that lead on to one other row
-
--- the plan k, with its arm at row i, leads on: a Loop, the only arm of an action of the role's own, the only arm of an exchange of others
-abbrev pub leads_on : List ℕ → List ℕ → ℕ → ℕ → Bool
-leads_on t order zero i = false
-leads_on t order (suc zero) i = true
-leads_on t order (suc (suc zero)) i = not (eqb i 0) && eqb (get_or order i 0) 0
-leads_on t order (suc (suc (suc k))) i = eqb (word t i 3) 0
-
--- a plan with what stands around its part
-abbrev pub way_to : ℕ → ℕ → ℕ → ℕ → ℕ → ℕ → Way
-way_to k w next at marks left = record { case = k; word = w; next = next; at = at; marks = marks; left = left }
 
 -- so many marks, each behind the last arm of an action
 abbrev pub marks : ℕ → List ℕ
@@ -134,20 +126,20 @@ pub record Within (r : ℕ) (G : Global ℕ) (left : ℕ) (ws : List ℕ) (n : �
   pub rows : rows_in B ≤ left
   pub fits : length ws + (rows_in B * 2 + n) ≤ rows_in G * 2
 
--- the words before the tree of the row that a plan leads on to
-pub record Enters (t : List ℕ) (k w next : ℕ) (work : List ℕ) (at : ℕ) (work' : List ℕ) (e : Step) : Type 0 where
-  pub few : e.marks ≤ 1
-  pub gives : (r : ℕ) (order : List ℕ) (G : Global ℕ) (left : ℕ) (s : List ℕ) → leads_on t order k next ≡ true → PlannedBy k r t order G w next
-      → rows_in G ≤ suc left → Good G → Coded G → Stack work at s → at + rows_in G * 2 ≤ length work
-      → (B : Global ℕ) × (ws : List ℕ) × Grows t e.row B × Stack work' e.at (s ++ ws) × Within r G left ws e.marks B
+-- where a plan leads on, the words before the tree of the row that it leads on to; where it does not, nothing is put
+pub record Enters (v : Projection) (plan : Plan) (work : List ℕ) (at : ℕ) (work' : List ℕ) (res : Maybe Step) : Type 0 where
+  pub stays : res ≡ None → work' ≡ work
+  pub few : (e : Step) → res ≡ Some e → e.marks ≤ 1
+  pub gives : (e : Step) → res ≡ Some e → (G : Global ℕ) (left : ℕ) (s : List ℕ) → PlannedBy plan v G → rows_in G ≤ suc left → Good G → Coded G
+      → Stack work at s → at + rows_in G * 2 ≤ length work
+      → (B : Global ℕ) × (ws : List ℕ) × Grows v.table.now e.row B × Stack work' e.at (s ++ ws) × Within v.role G left ws e.marks B
 
--- the plan of a row below row i that leads on to no single one, and what stands around its part
-pub record Walks (r : ℕ) (t kept order : List ℕ) (left i : ℕ) (work : List ℕ) (at : ℕ) (work' : List ℕ) (e : Way) : Type 0 where
-  pub no_loop : e.case ≢ 1
-  pub within : e.left ≤ left
-  pub gives : (G : Global ℕ) (s : List ℕ) → Known r t kept order → Grows t i G → rows_in G ≤ left → Good G → Coded G → Stack work at s
+-- the plan of a row below row i, and what stands around its part; none where the links run out
+pub record Walks (v : Projection) (left i : ℕ) (work : List ℕ) (at : ℕ) (work' : List ℕ) (res : Maybe Way) : Type 0 where
+  pub within : (e : Way) → res ≡ Some e → e.left < left
+  pub gives : (G : Global ℕ) (s : List ℕ) → Known v → Grows v.table.now i G → rows_in G ≤ left → Good G → Coded G → Stack work at s
       → at + rows_in G * 2 ≤ length work
-      → (B : Global ℕ) × (ws : List ℕ) × PlannedBy e.case r t order B e.word e.next × Stack work' e.at (s ++ ws) × Within r G e.left ws e.marks B
+      → (e : Way) × (B : Global ℕ) × (ws : List ℕ) × (res ≡ Some e) × PlannedBy e.plan v B × Stack work' e.at (s ++ ws) × Within v.role G (suc e.left) ws e.marks B
 
 -- so many marks more
 pub record Closed (n : ℕ) (work : List ℕ) (at : ℕ) (work' : List ℕ) (e : ℕ) : Type 0 where
@@ -155,20 +147,20 @@ pub record Closed (n : ℕ) (work : List ℕ) (at : ℕ) (work' : List ℕ) (e :
 
 -- ---- the calls
 
--- the tree of the plan k
-pub record Chooses (k r : ℕ) (t kept order : List ℕ) (left w next : ℕ) (work : List ℕ) (at : ℕ) (spare work' : List ℕ) (res : Projected) : Type 0 where
-  pub gives : (G : Global ℕ) (s : List ℕ) → Known r t kept order → PlannedBy k r t order G w next → rows_in G ≤ left → Good G → Coded G → Stack work at s
-      → Space (rows_in G * 2) at work spare → Outcome codes s work' res (part r G)
+-- the tree of a plan; the links that may be followed suffice for what is below it
+pub record Chooses (v : Projection) (plan : Plan) (left : ℕ) (work : List ℕ) (at : ℕ) (spare work' : List ℕ) (res : Maybe ℕ) : Type 0 where
+  pub gives : (G : Global ℕ) (s : List ℕ) → Known v → PlannedBy plan v G → rows_in G ≤ suc left → Good G → Coded G → Stack work at s
+      → Space (rows_in G * 2) at work spare → Outcome codes s work' res (part v.role G)
 
 -- the links that may be followed suffice for a tree of so many rows
-pub record Projects (r : ℕ) (t kept order : List ℕ) (left i : ℕ) (work : List ℕ) (at : ℕ) (spare work' : List ℕ) (res : Projected) : Type 0 where
-  pub gives : (G : Global ℕ) (s : List ℕ) → Known r t kept order → Grows t i G → rows_in G ≤ left → Good G → Coded G → Stack work at s
-      → Space (rows_in G * 2) at work spare → Outcome codes s work' res (part r G)
+pub record Projects (v : Projection) (left i : ℕ) (work : List ℕ) (at : ℕ) (spare work' : List ℕ) (res : Maybe ℕ) : Type 0 where
+  pub gives : (G : Global ℕ) (s : List ℕ) → Known v → Grows v.table.now i G → rows_in G ≤ left → Good G → Coded G → Stack work at s
+      → Space (rows_in G * 2) at work spare → Outcome codes s work' res (part v.role G)
 
 -- the arms from row i on, in rising order
-pub record Owns (r : ℕ) (t kept order : List ℕ) (left i : ℕ) (work : List ℕ) (at : ℕ) (spare work' : List ℕ) (res : Projected) : Type 0 where
-  pub gives : (cs : Arms ℕ) (s : List ℕ) → Known r t kept order → Listed t order i cs → rows_in_arms cs ≤ left → Plain cs → Stack work at s
-      → Space (suc (rows_in_arms cs * 2)) at work spare → Outcome codes_arms s work' res (part_arms r cs)
+pub record Owns (v : Projection) (left i : ℕ) (work : List ℕ) (at : ℕ) (spare work' : List ℕ) (res : Maybe ℕ) : Type 0 where
+  pub gives : (cs : Arms ℕ) (s : List ℕ) → Known v → Listed v.table.now v.order.now i cs → rows_in_arms cs ≤ left → Plain cs → Stack work at s
+      → Space (suc (rows_in_arms cs * 2)) at work spare → Outcome codes_arms s work' res (part_arms v.role cs)
 
 -- the arms from row i of a chain on, none for 0
 pub data Behind (t : List ℕ) : ℕ → Arms ℕ → Type 0 where
@@ -176,10 +168,10 @@ pub data Behind (t : List ℕ) : ℕ → Arms ℕ → Type 0 where
   behind_some : {i : ℕ} {cs : Arms ℕ} → 0 < i → Chain t i cs → Behind t i cs
 
 -- P is the last on the stack
-pub record Folds (r : ℕ) (t kept order : List ℕ) (left i : ℕ) (work : List ℕ) (at e : ℕ) (spare work' : List ℕ) (res : Projected) : Type 0 where
-  pub gives : (cs : Arms ℕ) (s : List ℕ) (P : Part) → Known r t kept order → Behind t i cs → rows_in_arms cs ≤ left → GoodArms cs → CodedArms cs → Rising P
+pub record Folds (v : Projection) (left i : ℕ) (work : List ℕ) (at e : ℕ) (spare work' : List ℕ) (res : Maybe ℕ) : Type 0 where
+  pub gives : (cs : Arms ℕ) (s : List ℕ) (P : Part) → Known v → Behind v.table.now i cs → rows_in_arms cs ≤ left → GoodArms cs → CodedArms cs → Rising P
       → at ≡ length s → Stack work e (s ++ codes P) → Space ((size P + rows_in_arms cs) * 2) at work spare
-      → Outcome codes s work' res (bind (part_arms r cs) (λ ps. merge_from P ps))
+      → Outcome codes s work' res (bind (part_arms v.role cs) (λ ps. merge_from P ps))
 
 -- ---- the parts of all roles
 
