@@ -1,22 +1,25 @@
 -- Rules tested one after the other: what is known where none of them refused, and that what one refused stays refused. Assumes nothing.
 use Prim.Native.Nat.{ℕ, ◌≤◌, ◌<◌}
 use mathlib.Core.Bool.{Bool, true, false, cond, not}
-use mathlib.Core.Logic.{◌≢◌}
 use mathlib.Core.List.{List, [], ◌∷◌}
 use mathlib.Core.Path.{◌≡◌, refl, sym, ◌∙◌, ap}
 use native.Mathlib.Omega.{arith}
 use lib.Dec.{ltb}
-use borrow.Author.Tests.{lt-ltb, le-ltb, not-false}
+use borrow.Author.Tests.{ltb-false, not-false}
 use Rattle.words.specs.Below.{lowest}
 use Rattle.words.specs.Rows.{rows_of}
 use Rattle.words.proofs.Below.{Lowest, found, nowhere, lowest_is}
 use Rattle.table.specs.Limits.{Limits, base}
 use Rattle.table.specs.Numbers.{WORDS, ROLES, NOPART}
 use Rattle.table.specs.Rules.{Rule, kind, field, link, named, twice, unbound, unguarded, rules, number, breaks, words_broken, roles_broken}
-use Rattle.table.specs.Check.{says, accepted, refused, refused_at, sized, tested, check_of}
-use Rattle.table.specs.declared.Verdict.{Verdict}
+use Rattle.table.specs.Check.{Verdict, says, accepted, refused, refused_at, sized, tested, check_of}
+use Rattle.table.specs.Refusals.{verdict_of}
+use Rattle.rules.proofs.Order.{some_number}
+use Rattle.table.specs.declared.refusal.Refusal.{Refusal}
+use Rattle.std.specs.Prelude.{Result, Ok, Err, OnOk, ⊤}
+use Rattle.parts.specs.mirror.Stands.{Stands}
 use Rattle.parts.specs.Projection.{part_of, present}
-use Rattle.projection.specs.mirror.Projects.{Parted, parts_of, Complete}
+use Rattle.projection.specs.mirror.Projects.{Parted, parts_words, parts_of, Complete}
 
 -- what tests rules before a rest either hands on to it, or refuses by a rule before the eleventh and never looks at it
 pub data Stage (test : Verdict → Verdict) : Type 0 where
@@ -80,32 +83,36 @@ none_lacks p (nowhere h) m r l = not-false (p r) (h r l)
 
 -- ---- the check, and rule 11 behind it
 
-module _ (t : List ℕ) (roles : ℕ) (v : Verdict) (e : v ≡ check_of base t roles) where
+module _ (t : List ℕ) (roles : ℕ) where
   checking : Stage (λ rest. sized base t roles (tested base t roles rules rest))
   checking = sized_stage base t roles (tested base t roles rules) (tested_stage base t roles rules)
 
-  pub refused_early : v.number ≢ 0 → v ≡ parts_of base t roles
+  -- what the check refused stays refused
+  pub refused_early : (d : Refusal) → verdict_of (Err d) ≡ check_of base t roles → verdict_of (Err d) ≡ parts_of base t roles
   unfolding parts_of check_of
-  refused_early h = e ∙ sym (stays checking (rw e at h) (parted t roles))
+  refused_early d e =
+      let some = some_number d.rule in
+      e ∙ sym (stays checking (λ z. omega (arith, ap (λ (v : Verdict). v.number) e, z)) (parted t roles))
 
-  module _ (z : v.number ≡ 0) where
-    pub checked : check_of base t roles ≡ accepted
-    unfolding check_of
-    checked = goes_on checking (rw e at z) accepted
-
+  module _ (e : check_of base t roles ≡ accepted) where
     by_parts : parts_of base t roles ≡ parted t roles
     unfolding parts_of check_of
-    by_parts = goes_on checking (rw e at z) (parted t roles)
+    by_parts = goes_on checking (ap (λ (v : Verdict). v.number) e) (parted t roles)
 
-    pub role_lacks : {words : List ℕ} {r : ℕ} → Parted t roles words r → r < roles → says NOPART r ≡ parts_of base t roles
-    role_lacks {r = r} p l = rw (by_parts, ← p.lacks, lt-ltb r roles l)
+    pub parted_verdict : {words : List ℕ} {r : Result ⊤ Refusal} → Parted t roles words r → verdict_of r ≡ parts_of base t roles
+    parted_verdict p = p.lacks ∙ sym by_parts
 
-    pub none_lacking : {words : List ℕ} {r : ℕ} → Parted t roles words r → roles ≤ r → accepted ≡ parts_of base t roles
-    none_lacking {r = r} p l = rw (by_parts, ← p.lacks, le-ltb r roles l)
+    every_part : accepted ≡ parted t roles → (r : ℕ) → r < roles → present (part_of t r) ≡ true
+    every_part h = go (ltb (lowest (lacks t) roles) roles) refl h
+      where
+        go : (b : Bool) → ltb (lowest (lacks t) roles) roles ≡ b → accepted ≡ cond b (says NOPART (lowest (lacks t) roles)) accepted
+            → (r : ℕ) → r < roles → present (part_of t r) ≡ true
+        go true f h = absurd (omega (arith, ap (λ (v : Verdict). v.number) h))
+        go false f h = none_lacks (λ r. present (part_of t r)) (lowest_is (lacks t) roles) (ltb-false (lowest (lacks t) roles) roles f)
 
-    pub complete : {words : List ℕ} {r : ℕ} → Parted t roles words r → roles ≤ r → Complete t roles words
-    complete p l = record {
-      checked = checked;
-      parts = none_lacks (λ r. present (part_of t r)) (lowest_is (lacks t) roles) (rw p.lacks at l);
-      stand = p.stands l;
-    }
+    pub parted_complete : {words : List ℕ} {r : Result ⊤ Refusal} → Parted t roles words r → OnOk r (Complete t roles words)
+    parted_complete {words} {r} p = go r p.lacks p.stands
+      where
+        go : (r : Result ⊤ Refusal) → verdict_of r ≡ parted t roles → OnOk r (Stands words 0 (parts_words t roles)) → OnOk r (Complete t roles words)
+        go (Ok u) h stands = record { checked = e; parts = every_part h; stand = stands }
+        go (Err d) h stands = tt

@@ -156,7 +156,7 @@ module _ (t : List ℕ) (n : ℕ) (o : Obeys base t n) (at : ℕ → Reach) (i :
 
 -- ---- the roles that stay in a Loop
 
-pub loop_stay : (B : Global ℕ) (r : Reach) → TreeReach (loop B) r → stay_of r.roles r.out ≡ set_of (λ k. takes_part k B || leaves 1 B) base.roles
+pub loop_stay : (B : Global ℕ) (r : Reach) → TreeReach (loop B) r → stay_of r ≡ set_of (λ k. takes_part k B || leaves 1 B) base.roles
 unfolding takes_part leaves
 loop_stay B r h = rw (h.far 0) (go (ltb 0 r.out))
   where

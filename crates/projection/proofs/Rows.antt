@@ -1,11 +1,17 @@
 -- What a row asks for a role, from the words that the code read. Assumes nothing.
-use Prim.Native.Nat.{ℕ, ◌+◌, ◌*◌, ◌<◌}
+use Prim.Native.Nat.{ℕ, zero, suc, ◌+◌, ◌*◌, ◌<◌, min}
 use mathlib.Core.Bool.{Bool, true, false, ◌||◌}
-use mathlib.Core.Path.{◌≡◌, refl, sym, ◌∙◌}
+use mathlib.Core.List.{List}
+use mathlib.Core.Logic.{◌≢◌}
+use mathlib.Core.Path.{◌≡◌, refl, sym, ◌∙◌, ap}
 use native.Mathlib.Omega.{arith}
 use lib.ListN.{get_or}
 use borrow.Author.Tests.{eq-eqb, ne_eqb}
 use Rattle.words.specs.Rows.{word}
+use Rattle.table.specs.Rows.{Row, End, Exchange, Arm, Loop, Back, Other, row_of, row}
+use Rattle.table.specs.mirror.Read.{said}
+use Rattle.table.specs.declared.row.Row as declared
+use Rattle.table.specs.declared.row.Row.TheVariants as read
 use Rattle.table.specs.Tree.{Global, exchange, loop, back, Arms}
 use Rattle.parts.specs.Part.{p_end, p_send, p_receive, p_back}
 use Rattle.parts.specs.Absent.{takes_part, leaves}
@@ -48,6 +54,98 @@ module _ (v : Projection) where
     pub others_plan : {next : ℕ} → (v.role ≡ p → ⊥) → (v.role ≡ q → ⊥) → Chain v.table.now next cs → PlannedBy (Others next) v (exchange p q cs)
     unfolding part_exchange
     others_plan d e c = (p, q, cs, refl, c, λ ps. rw (ne_eqb v.role p d, ne_eqb v.role q e))
+
+-- ---- a row, as the code read it
+
+abbrev number : Row → ℕ
+number (End a b c) = 0
+number (Exchange a b c) = 1
+number (Arm a b c) = 2
+number (Loop a b c) = 3
+number (Back a b c) = 4
+number Other = 5
+
+abbrev first : Row → ℕ
+first (End a b c) = a
+first (Exchange a b c) = a
+first (Arm a b c) = a
+first (Loop a b c) = a
+first (Back a b c) = a
+first Other = 0
+
+abbrev second : Row → ℕ
+second (End a b c) = b
+second (Exchange a b c) = b
+second (Arm a b c) = b
+second (Loop a b c) = b
+second (Back a b c) = b
+second Other = 0
+
+abbrev third : Row → ℕ
+third (End a b c) = c
+third (Exchange a b c) = c
+third (Arm a b c) = c
+third (Loop a b c) = c
+third (Back a b c) = c
+third Other = 0
+
+-- its four words
+pub words_are : (k a b c : ℕ) (x : Row) → x ≡ row_of k a b c → number x < 5 → (k ≡ number x) × (a ≡ first x) × (b ≡ second x) × (c ≡ third x)
+words_are zero a b c x e l = (sym (ap number e), sym (ap first e), sym (ap second e), sym (ap third e))
+words_are (suc zero) a b c x e l = (sym (ap number e), sym (ap first e), sym (ap second e), sym (ap third e))
+words_are (suc (suc zero)) a b c x e l = (sym (ap number e), sym (ap first e), sym (ap second e), sym (ap third e))
+words_are (suc (suc (suc zero))) a b c x e l = (sym (ap number e), sym (ap first e), sym (ap second e), sym (ap third e))
+words_are (suc (suc (suc (suc zero)))) a b c x e l = (sym (ap number e), sym (ap first e), sym (ap second e), sym (ap third e))
+words_are (suc (suc (suc (suc (suc k))))) a b c x e l = absurd (omega (arith, ap number e))
+
+-- a row of another kind
+not_kind : (t : List ℕ) (i n : ℕ) (x : Row) → x ≡ row t i → n < 5 → number x ≢ n → word t i 0 ≡ n → ⊥
+not_kind t i n x e l h k = h (ap number e ∙ rw k (small n l (word t i 1) (word t i 2) (word t i 3)))
+  where
+    small : (n : ℕ) → n < 5 → (a b c : ℕ) → number (row_of n a b c) ≡ n
+    small zero l a b c = refl
+    small (suc zero) l a b c = refl
+    small (suc (suc zero)) l a b c = refl
+    small (suc (suc (suc zero))) l a b c = refl
+    small (suc (suc (suc (suc zero)))) l a b c = refl
+    small (suc (suc (suc (suc (suc n))))) l a b c = absurd (omega arith)
+
+pub not_exchange : (t : List ℕ) (i : ℕ) (x : declared.Row) → said x ≡ row t i → ((s r f : ℕ) → x ≡ read.Exchange s r f → ⊥) → word t i 0 ≡ 1 → ⊥
+not_exchange t i x e never = not_kind t i 1 (said x) e (omega arith) (go x never)
+  where
+    go : (x : declared.Row) → ((s r f : ℕ) → x ≡ read.Exchange s r f → ⊥) → number (said x) ≢ 1
+    go (read.End a b c) never h = omega arith
+    go (read.Exchange a b c) never h = never a b c refl
+    go (read.Arm a b c) never h = omega arith
+    go (read.Loop a b c) never h = omega arith
+    go (read.Back a b c) never h = omega arith
+    go read.Other never h = omega arith
+
+not_loop : (t : List ℕ) (i : ℕ) (x : declared.Row) → said x ≡ row t i → ((b c d : ℕ) → x ≡ read.Loop b c d → ⊥) → word t i 0 ≡ 3 → ⊥
+not_loop t i x e never = not_kind t i 3 (said x) e (omega arith) (go x never)
+  where
+    go : (x : declared.Row) → ((s r f : ℕ) → x ≡ read.Loop s r f → ⊥) → number (said x) ≢ 3
+    go (read.End a b c) never h = omega arith
+    go (read.Exchange a b c) never h = omega arith
+    go (read.Arm a b c) never h = omega arith
+    go (read.Loop a b c) never h = never a b c refl
+    go (read.Back a b c) never h = omega arith
+    go read.Other never h = omega arith
+
+not_back : (t : List ℕ) (i : ℕ) (x : declared.Row) → said x ≡ row t i → ((d b c : ℕ) → x ≡ read.Back d b c → ⊥) → word t i 0 ≡ 4 → ⊥
+not_back t i x e never = not_kind t i 4 (said x) e (omega arith) (go x never)
+  where
+    go : (x : declared.Row) → ((s r f : ℕ) → x ≡ read.Back s r f → ⊥) → number (said x) ≢ 4
+    go (read.End a b c) never h = omega arith
+    go (read.Exchange a b c) never h = omega arith
+    go (read.Arm a b c) never h = omega arith
+    go (read.Loop a b c) never h = omega arith
+    go (read.Back a b c) never h = never a b c refl
+    go read.Other never h = omega arith
+
+-- a small field as a word again
+pub narrowed : (k : ℕ) {x n w : ℕ} → n ≡ min x 65535 → (n < SMALL → w ≡ k + n * 8) → x < SMALL → w ≡ k + x * 8
+narrowed k {x} {n} e h l = let same : n ≡ x = omega (arith, e) in rw (← same) (h (omega arith))
 
 -- ---- the kind of a row, as the code read it
 
@@ -96,3 +194,8 @@ module _ {v : Projection} {i k : ℕ} (ek : k ≡ word v.table.now i 0) where
       go G o (grows_exchange l z a b c f) m = absurd (n1 (ek ∙ z))
       go G o (grows_loop l z a f) m = absurd (n3 (ek ∙ z))
       go G o (grows_back l z a) m = absurd (n4 (ek ∙ z))
+
+pub at_other : {v : Projection} {i : ℕ} (x : declared.Row) → said x ≡ row v.table.now i → ((s r f : ℕ) → x ≡ read.Exchange s r f → ⊥)
+    → ((b c d : ℕ) → x ≡ read.Loop b c d → ⊥) → ((d b c : ℕ) → x ≡ read.Back d b c → ⊥) → {w : ℕ} → w ≡ 0 → Planned v i (Leaf w)
+at_other {v} {i} x e n1 n3 n4 ew =
+    at_end refl (not_exchange v.table.now i x e n1) (not_loop v.table.now i x e n3) (not_back v.table.now i x e n4) ew

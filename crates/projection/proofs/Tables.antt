@@ -3,7 +3,7 @@ use Prim.Native.Nat.{ℕ, ◌+◌, ◌*◌, ◌<◌, ◌≤◌}
 use mathlib.Core.Bool.{true, false}
 use mathlib.Core.List.{List, [], ◌++◌}
 use mathlib.Core.Option.{Option, none, some}
-use mathlib.Core.Path.{◌≡◌, refl, sym, ap, subst}
+use mathlib.Core.Path.{◌≡◌, refl, sym, ◌∙◌, ap, subst}
 use native.Mathlib.Nat.{mul-le-mul, mul-le-mul_right, suc-mul}
 use native.Mathlib.Numerals.{add-one}
 use native.Mathlib.Omega.{arith}
@@ -29,7 +29,11 @@ use Rattle.parts.proofs.Laws.{part_size}
 use Rattle.parts.proofs.Sizes.{words_twice}
 use Rattle.projection.specs.mirror.Projects.{SMALL, Coded, s_end, s_exchange, s_loop, s_back, CodedArms, s_nil, s_arm, Stack, Outcome, fails, puts, Projects, words_of, parts_words, Prepared}
 use Rattle.projection.specs.declared.Projection.{Projection}
-use Rattle.std.specs.Prelude.{Some, None}
+use Rattle.std.specs.Prelude.{Some, None, Result, Ok, Err}
+use Rattle.std.specs.Option.{ok_or}
+use Rattle.std.specs.Result.{result_ok, result_err}
+use Rattle.std.proofs.lemmas.Option.{none-some, same_Some}
+use Rattle.table.specs.declared.refusal.Refusal.{Refusal}
 use Rattle.std.specs.Prelude.{Option as Maybe}
 use Rattle.projection.proofs.Join.{between}
 use Rattle.projection.proofs.Steps.{restack, none_some, some_same}
@@ -85,8 +89,8 @@ pub upto_none : (t work : List ℕ) → Upto t 0 work 0
 unfolding parts_words
 upto_none t work = record { stack = record { rest = work; is = refl; height = refl }; low = omega arith; each = below_none _ }
 
-module _ (v : Projection) {roles at : ℕ} {work₀ spare₀ work spare work' : List ℕ} {res : Maybe ℕ} (l : v.role < roles)
-    (p : Prepared v.table.now v.kept.now v.order.now roles work₀ spare₀) (lw : length work ≡ length work₀) (ls : length spare ≡ length spare₀)
+module _ (v : Projection) {roles at words : ℕ} {work₀ work spare work' : List ℕ} {res : Maybe ℕ} (l : v.role < roles)
+    (p : Prepared v.table.now v.kept.now v.order.now roles work₀ words) (lw : length work ≡ length work₀) (ls : length spare ≡ words)
     (u : Upto v.table.now v.role work at) (h : Projects v (rows_of v.table.now) 0 work at spare work' res) where
   abbrev t : List ℕ
   t = v.table.now
@@ -131,6 +135,21 @@ module _ (v : Projection) {roles at : ℕ} {work₀ spare₀ work spare work' : 
                 (omega (arith, u.low, u.stack.height, s.height, length-append (parts_words t k) (codes P), words_twice P, suc-mul k (rows_of t * 2), rows P q));
             each = below_more _ _ u.each (ap present q);
           }
+
+-- what stands in the place of a part that there is not
+pub ok_or_none : {res : Maybe ℕ} {r : Result ℕ Refusal} {e d : Refusal} → r ≡ ok_or res e → r ≡ Err d → (res ≡ None) × (d ≡ e)
+ok_or_none {res} {r} {e} {d} h is = go res (sym is ∙ h)
+  where
+    go : (res : Maybe ℕ) → Err d ≡ ok_or res e → (res ≡ None) × (d ≡ e)
+    go None q = (refl, same_Some d e (ap result_err q))
+    go (Some x) q = absurd (none-some x (ap result_ok q))
+
+pub ok_or_some : {res : Maybe ℕ} {r : Result ℕ Refusal} (e : Refusal) {x : ℕ} → r ≡ ok_or res e → r ≡ Ok x → res ≡ Some x
+ok_or_some {res} {r} e {x} h is = go res (sym is ∙ h)
+  where
+    go : (res : Maybe ℕ) → Ok x ≡ ok_or res e → res ≡ Some x
+    go None q = absurd (none-some x (sym (ap result_ok q)))
+    go (Some y) q = sym (ap result_ok q)
 
 -- every role has a part
 pub upto_all : {t : List ℕ} {k : ℕ} {work : List ℕ} {at : ℕ} → Upto t k work at → Stands work 0 (parts_words t k)

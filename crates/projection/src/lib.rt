@@ -6,10 +6,11 @@
 mod chains;
 mod reach;
 
-ghost use Rattle.std.specs.Prelude.{◌≡◌, ◌≢◌, List, ℕ, ◌+◌, ◌*◌, ◌<◌, ◌≤◌, length, get_or};
+ghost use Rattle.std.specs.Prelude.{◌≡◌, ℕ, ◌*◌, ◌<◌, ◌≤◌, min, length, get_or, OnOk};
 ghost use Rattle.words.specs.Rows.{rows_of};
 ghost use Rattle.table.specs.Limits.{base};
 ghost use Rattle.table.specs.Check.{accepted, check_of};
+ghost use Rattle.table.specs.Refusals.{verdict_of};
 ghost use Rattle.table.specs.Tree.{Global, loop, Arms, exchange};
 ghost use Rattle.parts.specs.mirror.Grows.{Grows, Chain, ordered};
 ghost use Rattle.parts.specs.mirror.Kinds.{argument_of, word_of};
@@ -17,7 +18,7 @@ ghost use Rattle.projection.specs.mirror.Orders.{Listed};
 ghost use Rattle.projection.specs.mirror.Projects.{SMALL, Coded, Pushed, PlannedBy, Known, Planned, Enters, Walks, Closed, ArmRead, Chooses, Projects, Owns, Folds, Prepared, Parted, parts_of, Complete};
 
 use parts::Code;
-use table::{Row, Table, Verdict};
+use table::{Refusal, Row, Rule, Table};
 
 // What a row asks for a role.
 #[derive(Clone, Copy, Debug, PartialEq, Eq)]
@@ -70,6 +71,13 @@ fn word(code: Code) -> u16
     u16::try_from(code).unwrap_or(0)
 }
 
+// The field of a row as a word again.
+fn narrow(field: usize) -> u16
+    ensures { result ≡ min field 65535 }
+{
+    u16::try_from(field).unwrap_or(u16::MAX)
+}
+
 // One word more on the stack; nothing where it is full, so that no sum wraps.
 fn push(work: &mut [u16], at: usize, word: u16) -> usize
     ensures { Pushed work.old at word work.new result }
@@ -120,20 +128,20 @@ impl<'a> Projection<'a> {
     }
 
     // An Exchange: the role sends, receives, or stands by. `least`: the arm with the lowest label; `first`: the first of the chain.
-    fn at_exchange(&self, sender: u16, receiver: u16, least: usize, first: usize) -> Plan
+    fn at_exchange(&self, sender: usize, receiver: usize, least: usize, first: usize) -> Plan
         ensures { (cs : Arms ℕ) → Coded (exchange sender receiver cs)
             → Listed self.now.table.now self.now.order.now least (ordered cs) → Chain self.now.table.now first cs
             → PlannedBy result self.now (exchange sender receiver cs) }
     {
-        if self.role == usize::from(sender) {
+        if self.role == sender {
             return Plan::Action {
-                word: word(Code::Send(receiver)),
+                word: word(Code::Send(narrow(receiver))),
                 first: least,
             };
         }
-        if self.role == usize::from(receiver) {
+        if self.role == receiver {
             return Plan::Action {
-                word: word(Code::Receive(sender)),
+                word: word(Code::Receive(narrow(sender))),
                 first: least,
             };
         }
@@ -151,12 +159,15 @@ impl<'a> Projection<'a> {
     fn plan_at(&self, row: usize) -> Plan
         ensures { Planned self.now row result }
     {
-        let [kind, first, second, third] = words::row(self.table, row);
-        match kind {
-            Row::EXCHANGE => self.at_exchange(first, second, self.after(row), usize::from(third)),
-            Row::LOOP => self.at_loop(row, usize::from(first)),
-            Row::BACK => Plan::Leaf {
-                word: word(Code::Back(first)),
+        match table::read(self.table, row) {
+            Row::Exchange {
+                sender,
+                receiver,
+                arms,
+            } => self.at_exchange(sender, receiver, self.after(row), arms),
+            Row::Loop(body, _, _) => self.at_loop(row, body),
+            Row::Back(depth, _, _) => Plan::Leaf {
+                word: word(Code::Back(narrow(depth))),
             },
             _ => Plan::Leaf {
                 word: word(Code::End),
@@ -168,15 +179,14 @@ impl<'a> Projection<'a> {
     fn arm_at(&self, row: usize) -> Option<Arm>
         ensures { ArmRead self.now.table.now row result }
     {
-        let [kind, label, then, next] = words::row(self.table, row);
-        if kind != Row::ARM {
-            return None;
+        match table::read(self.table, row) {
+            Row::Arm { label, then, next } => Some(Arm {
+                word: word(Code::Arm(narrow(label))),
+                then,
+                next,
+            }),
+            _ => None,
         }
-        Some(Arm {
-            word: word(Code::Arm(label)),
-            then: usize::from(then),
-            next: usize::from(next),
-        })
     }
 
     // Where a plan is a Loop, or an exchange with one arm, its part is that of one other row, with words before and marks behind: puts the
@@ -334,70 +344,40 @@ impl<'a> Projection<'a> {
     }
 }
 
-// Puts the parts of the roles on the stack, role 0 first, up to the lowest role that has none. The answer is that role, or `roles`.
-fn put_all(
-    table: &[u16],
-    kept: &[u16],
-    order: &[u16],
-    roles: usize,
-    work: &mut [u16],
-    spare: &mut [u16],
-) -> usize
-    ensures { Prepared table.now kept.now order.now roles work.old spare.old
-        → Parted table.now roles work.new result }
+// Puts the parts of the roles in a table that the check accepts one after the other, up to the lowest role that has none. The merges are lent
+// a word for each that two parts of this table can have.
+fn put_all(table: &[u16], roles: usize, work: &mut [u16]) -> Result<(), Refusal>
+    requires { (check_of base table.now roles ≡ accepted) × (roles * (rows_of table.now * 2) ≤ length work.old) }
+    ensures { Parted table.now roles work.new result }
 {
+    let kept = reach::kept_roles(table);
+    let order = chains::arms_in_order(table);
+    let mut spare = [0u16; SPARE];
     let rows = table.len() / 4;
+    let words = rows * 2 + 1;
     let mut at = 0;
     for role in 0..roles {
         let projection = Projection {
             table,
-            kept,
-            order,
+            kept: &kept,
+            order: &order,
             role,
         };
-        match projection.project(0, work, at, spare, rows) {
-            Some(end) => at = end,
-            None => return role,
-        }
+        let part = projection.project(0, work, at, &mut spare[..words], rows);
+        at = part.ok_or(Refusal {
+            rule: Rule::NoPart,
+            place: role,
+        })?;
     }
-    roles
-}
-
-// The lowest role that has no part in row 0 of a table that the check accepts, or `roles`; then the words of all parts stand in `work`, one part
-// after the other. The merges are lent a word for each that two parts of this table can have.
-fn lowest_without(table: &[u16], roles: usize, work: &mut [u16]) -> usize
-    requires { (check_of base table.now roles ≡ accepted) × (roles * (rows_of table.now * 2) ≤ length work.old) }
-    ensures { Parted table.now roles work.new result }
-{
-    let mut kept = [0u16; Table::ROWS];
-    let mut order = [0u16; Table::ROWS];
-    let mut spare = [0u16; SPARE];
-    reach::fill(table, &mut kept);
-    chains::fill(table, &mut order);
-    let words = table.len() / 4 * 2 + 1;
-    put_all(table, &kept, &order, roles, work, &mut spare[0..words])
+    Ok(())
 }
 
 // Rules 1, 2 and 4 to 11: the verdict on a table and on its parts. Where every role has one, the words of all parts stand in `work`, one part
 // after the other. Only a table that keeps the rules is projected, and there no row is met twice for a role.
-pub fn parts(table: &[u16], roles: usize, work: &mut [u16; PARTS]) -> Verdict
-    ensures { (result ≡ parts_of base table.now roles)
-        × (result.number ≡ 0 → Complete table.now roles work.new) }
+pub fn parts(table: &[u16], roles: usize, work: &mut [u16; PARTS]) -> Result<(), Refusal>
+    ensures verdict { verdict_of result ≡ parts_of base table.now roles }
+    ensures complete { OnOk result (Complete table.now roles work.new) }
 {
-    let checked = rules::check(table, roles);
-    let number = checked.number;
-    if number != Verdict::ACCEPTED {
-        return checked;
-    }
-    let role = lowest_without(table, roles, work);
-    if role < roles {
-        return Verdict {
-            number: Verdict::NOPART,
-            place: role,
-        };
-    }
-    Verdict {
-        number: Verdict::ACCEPTED,
-        place: 0,
-    }
+    rules::check(table, roles)?;
+    put_all(table, roles, work)
 }

@@ -1,24 +1,23 @@
 -- `projection::parts` meets its contract: the check, then rule 11. Assumes nothing.
+use mathlib.Core.Path.{sym, ◌∙◌, ap}
 use native.Mathlib.Omega.{arith}
-use Rattle.projection.proofs.Order.{refused_early, checked, role_lacks, none_lacking, complete}
+use Rattle.std.proofs.lemmas.Result.{err_from_is_err_and}
+use Rattle.table.specs.Refusals.{verdict_of}
+use Rattle.projection.proofs.Order.{refused_early, parted_verdict, parted_complete}
 use Rattle.projection.proofs.Tables.{all_words}
 use Rattle.projection.proofs.parts.Goals as goal
 
-pub returns-then-number-ne-ACCEPTED : goal.returns-then-number-ne-ACCEPTED
-returns-then-number-ne-ACCEPTED c = (refused_early _ _ _ c.check-checked.ensures c.if-number-ne-ACCEPTED.true, λ e. absurd (c.if-number-ne-ACCEPTED.true e))
+pub returns-in_err-check-clause-verdict : goal.returns-in_err-check-clause-verdict
+returns-in_err-check-clause-verdict c =
+    let p = err_from_is_err_and c.from_residual.result c.from_residual.ensures.1 in
+    rw (p.1, p.2) (refused_early _ _ _ (sym (ap verdict_of c.in_err-check.was) ∙ c.check.ensures))
 
-pub lowest_without-role-requires : goal.lowest_without-role-requires
-lowest_without-role-requires c =
-    let e = checked _ _ _ c.check-checked.ensures c.if-number-ne-ACCEPTED.false in
-    (e, omega (arith, all_words _ _ e))
+pub put_all-requires : goal.put_all-requires
+put_all-requires c =
+    let e = sym (sym (ap verdict_of c.in_ok-check.was) ∙ c.check.ensures) in (e, omega (arith, all_words _ _ e))
 
-pub returns-then-role-roles : goal.returns-then-role-roles
-returns-then-role-roles c =
-    (role_lacks _ _ _ c.check-checked.ensures c.if-number-ne-ACCEPTED.false c.lowest_without-role.ensures c.if-role-roles.true, λ e. absurd (omega arith))
+pub returns-clause-verdict : goal.returns-clause-verdict
+returns-clause-verdict c = parted_verdict _ _ (sym (sym (ap verdict_of c.in_ok-check.was) ∙ c.check.ensures)) c.put_all.ensures
 
-pub returns : goal.returns
-returns c =
-    let ends = c.lowest_without-role.ensures in (
-      none_lacking _ _ _ c.check-checked.ensures c.if-number-ne-ACCEPTED.false ends c.if-role-roles.false,
-      λ e. complete _ _ _ c.check-checked.ensures c.if-number-ne-ACCEPTED.false ends c.if-role-roles.false,
-    )
+pub returns-clause-complete : goal.returns-clause-complete
+returns-clause-complete c = parted_complete _ _ (sym (sym (ap verdict_of c.in_ok-check.was) ∙ c.check.ensures)) c.put_all.ensures

@@ -1,37 +1,62 @@
 -- `projection::put_all` meets its contract: each turn puts one part behind those before it. Assumes nothing.
+use Prim.Native.Nat.{◌+◌, ◌*◌, ◌≤◌, ◌/◌}
 use mathlib.Core.Bool.{not}
 use mathlib.Core.Path.{◌≡◌, refl, sym, ◌∙◌, ap}
 use native.Mathlib.Omega.{arith}
+use lib.ListN.{length, drop, length-append, length-drop}
+use borrow.Author.Tests.{lt-ltb, le-ltb}
+use Rattle.std.proofs.lemmas.List.{length-take-le}
+use Rattle.std.proofs.lemmas.Result.{err_from_is_err_and}
+use Rattle.words.specs.Rows.{rows_of}
 use Rattle.words.proofs.Below.{lowest_at, lowest_none}
-use Rattle.projection.proofs.Tables.{upto_none, lacking, upto_more, upto_all}
+use Rattle.table.specs.Limits.{base}
+use Rattle.table.proofs.Accepted.{obeys}
+use Rattle.table.proofs.Sizes.{measured}
+use Rattle.projection.proofs.Tables.{upto_none, lacking, upto_more, upto_all, ok_or_none, ok_or_some}
 use Rattle.projection.proofs.put_all.Goals as goal
 
 pub loop-role-init : goal.loop-role-init
-loop-role-init c = (refl, refl, λ p. upto_none _ _)
+loop-role-init c = (refl, refl, upto_none _ _)
+
+pub slice_bounds-spare-end : goal.slice_bounds-spare-end
+slice_bounds-spare-end c =
+    let few : rows_of c.args.table.now ≤ base.rows = (measured base _ _ (obeys base c.args.table.now c.args.roles c.requires.0).sizes).few in
+    omega (arith, few, c.loop-role.invariant.1)
+
+pub slice_bounds-project-end : goal.slice_bounds-project-end
+slice_bounds-project-end c =
+    let few : rows_of c.args.table.now ≤ base.rows = (measured base _ _ (obeys base c.args.table.now c.args.roles c.requires.0).sizes).few in
+    sym (length-take-le _ c.loop-role.spare (omega (arith, few, c.loop-role.invariant.1)))
+
+pub returns-in_err-at : goal.returns-in_err-at
+returns-in_err-at c =
+    let was = c.loop-role.invariant in
+    let few : rows_of c.args.table.now ≤ base.rows = (measured base _ _ (obeys base c.args.table.now c.args.roles c.requires.0).sizes).few in
+    let p = err_from_is_err_and c.from_residual.result c.from_residual.ensures.1 in
+    let (none, refusal) = ok_or_none c.ok_or.ensures.value c.in_err-at.was in
+    let low = lowest_at _ _ _ c.loop-role-test.true (λ k l. ap not (was.2.each k l))
+    (ap not (lacking _ c.loop-role-test.true (record { checked = c.requires.0; keeps = c.kept_roles-kept.ensures _ c.requires.0; orders = c.arms_in_order-order.ensures _ c.requires.0; fits = c.requires.1; spares = omega arith })
+    was.0 (length-take-le (length c.args.table.now / 4 * 2 + 1) c.loop-role.spare (omega (arith, few, was.1))) was.2 c.project-part.ensures none)) in
+    rw (p.1, p.2, refusal)
+    (record { lacks = rw (low, lt-ltb _ _ c.loop-role-test.true); stands = tt })
 
 pub loop-role-preserved : goal.loop-role-preserved
 loop-role-preserved c =
-    let was = c.loop-role.invariant in (
-      c.project.auto.work ∙ was.0,
-      c.project.auto.spare ∙ was.1,
-      λ p. upto_more _ c.loop-role-test.true p was.0 was.1 (was.2 p) c.project.ensures c.in-Some.is,
+    let was = c.loop-role.invariant in
+    let few : rows_of c.args.table.now ≤ base.rows = (measured base _ _ (obeys base c.args.table.now c.args.roles c.requires.0).sizes).few in
+    let words = length c.args.table.now / 4 * 2 + 1 in
+    let lent = length-take-le words c.loop-role.spare (omega (arith, few, was.1)) in (
+      c.project-part.auto.work ∙ was.0,
+      omega (arith, length-append c.project-part.new.spare (drop words c.loop-role.spare), length-drop words c.loop-role.spare, c.project-part.auto.spare, lent, was.1, few),
+      upto_more _ c.loop-role-test.true (record { checked = c.requires.0; keeps = c.kept_roles-kept.ensures _ c.requires.0; orders = c.arms_in_order-order.ensures _ c.requires.0; fits = c.requires.1; spares = omega arith })
+          was.0 lent was.2 c.project-part.ensures (ok_or_some _ c.ok_or.ensures.value c.in_ok-at.was),
     )
 
-pub returns-in-None : goal.returns-in-None
-returns-in-None c = λ p.
-    let was = c.loop-role.invariant in
-    record {
-      lacks =
-          sym (lowest_at _ _ _ c.loop-role-test.true (λ k l. ap not ((was.2 p).each k l))
-          (ap not (lacking _ c.loop-role-test.true p was.0 was.1 (was.2 p) c.project.ensures c.in-None.is)));
-      stands = λ l. absurd (omega (arith, c.loop-role-test.true));
-    }
-
 pub returns : goal.returns
-returns c = λ p.
+returns c =
     let was = c.loop-role.invariant in
     let e : c.args.roles ≡ c.loop-role.role = omega (arith, c.loop-role-test.false) in
     record {
-      lacks = rw e (sym (lowest_none _ _ (λ k l. ap not ((was.2 p).each k l))));
-      stands = λ l. rw e (upto_all (was.2 p));
+      lacks = rw (e, lowest_none _ _ (λ k l. ap not (was.2.each k l)), le-ltb c.loop-role.role c.loop-role.role (omega arith));
+      stands = rw e (upto_all was.2);
     }

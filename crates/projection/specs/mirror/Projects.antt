@@ -1,15 +1,15 @@
 -- What is promised of the projection's functions: each puts the words of a part, or of arms, on a stack, or says that there is no part.
 -- r: the role. work, work': the stack before and after. at, e: its height. Assumes nothing.
-use Rattle.std.specs.Prelude.{ℕ, zero, suc, ◌+◌, ◌*◌, ◌<◌, ◌≤◌, true, not, ◌||◌, List, [], ◌∷◌, ◌++◌, ◌≡◌, Some, None, length, replicate}
+use Rattle.std.specs.Prelude.{ℕ, zero, suc, ◌+◌, ◌*◌, ◌<◌, ◌≤◌, true, not, ◌||◌, List, [], ◌∷◌, ◌++◌, ◌≡◌, Some, None, Result, OnOk, ⊤, length, replicate}
 use Rattle.std.specs.Prelude.{Option as Maybe}
 use Rattle.std.proofs.Math.Option.{Option, none, some, bind}
-use Rattle.words.specs.Below.{lowest}
 use Rattle.words.specs.Rows.{word, rows_of}
 use Rattle.table.specs.Limits.{Limits, base}
 use Rattle.table.specs.Numbers.{NOPART}
 use Rattle.table.specs.Rules.{rules}
-use Rattle.table.specs.Check.{accepted, refused_at, sized, tested, check_of}
-use Rattle.table.specs.declared.Verdict.{Verdict}
+use Rattle.table.specs.Check.{Verdict, accepted, refused_at, sized, tested, check_of}
+use Rattle.table.specs.Refusals.{verdict_of}
+use Rattle.table.specs.declared.refusal.Refusal.{Refusal}
 use Rattle.table.specs.mirror.Kept.{Good, GoodArms}
 use Rattle.table.specs.Tree.{Global, end, exchange, loop, back, Arms, nil, arm, rows_in, rows_in_arms}
 use Rattle.parts.specs.Part.{Part, PartArms, rising}
@@ -187,17 +187,17 @@ parts_words t zero = []
 parts_words t (suc n) = parts_words t n ++ words_of (part_of t n)
 
 -- what the code needs to put the parts of all roles on the stack
-pub record Prepared (t kept order : List ℕ) (roles : ℕ) (work spare : List ℕ) : Type 0 where
+pub record Prepared (t kept order : List ℕ) (roles : ℕ) (work : List ℕ) (words : ℕ) : Type 0 where
   pub checked : check_of base t roles ≡ accepted
   pub keeps : Keeps t kept
   pub orders : Orders t order
   pub fits : roles * (rows_of t * 2) ≤ length work
-  pub spares : rows_of t * 2 < length spare
+  pub spares : rows_of t * 2 < words
 
--- the lowest role that has no part, or roles; and, where every role has one, the words of all parts one after the other
-pub record Parted (t : List ℕ) (roles : ℕ) (work' : List ℕ) (r : ℕ) : Type 0 where
-  pub lacks : r ≡ lowest (λ k. not (present (part_of t k))) roles
-  pub stands : roles ≤ r → Stands work' 0 (parts_words t roles)
+-- refused at the lowest role that has no part; and, where every role has one, the words of all parts one after the other
+pub record Parted (t : List ℕ) (roles : ℕ) (work' : List ℕ) (res : Result ⊤ Refusal) : Type 0 where
+  pub lacks : verdict_of res ≡ refused_at NOPART (λ k. not (present (part_of t k))) roles accepted
+  pub stands : OnOk res (Stands work' 0 (parts_words t roles))
 
 -- the verdict on a table and on its parts: rules 1, 2 and 4 to 11
 unfoldable pub parts_of : Limits → List ℕ → ℕ → Verdict

@@ -1,11 +1,13 @@
 -- `projection::Projection::arm_at` meets its contract. Assumes nothing.
-use mathlib.Core.Path.{refl, ◌∙◌, ap}
-use Rattle.std.proofs.Common.{List, get_or, ℕ}
+use mathlib.Core.Path.{refl, sym, ◌∙◌, ap}
+use native.Mathlib.Omega.{arith}
+use Rattle.table.specs.Rows.{Arm}
+use Rattle.table.specs.mirror.Read.{said}
 use Rattle.projection.specs.mirror.Projects.{an_arm}
+use Rattle.projection.proofs.Rows.{words_are, narrowed}
 use Rattle.projection.proofs.Projection.arm_at.Goals as goal
 
-pub returns : goal.returns
-returns c =
-    let label = ap (λ (x : List ℕ). get_or x 1 0) c.row.ensures in
-    an_arm _ refl (λ l. rw (← label) (c.word.ensures (rw label l)))
-    (c.from.ensures ∙ ap (λ (x : List ℕ). get_or x 2 0) c.row.ensures) (c.from-2.ensures ∙ ap (λ (x : List ℕ). get_or x 3 0) c.row.ensures)
+pub returns-in-Arm : goal.returns-in-Arm
+returns-in-Arm c =
+    let (k, a, b, f) = words_are _ _ _ _ (Arm _ _ _) (sym (ap said c.in-Arm.is) ∙ c.read.ensures) (omega arith) in
+    an_arm _ refl (λ l. rw a (narrowed 2 c.narrow.ensures c.word.ensures (rw a at l))) (sym b) (sym f)

@@ -1,19 +1,21 @@
 -- `projection::Projection::plan_at` meets its contract. Assumes nothing.
-use mathlib.Core.Path.{◌∙◌, ap}
+use mathlib.Core.Path.{refl, sym, ◌∙◌, ap}
 use native.Mathlib.Omega.{arith}
-use Rattle.std.proofs.Common.{List, get_or, ℕ}
-use Rattle.projection.proofs.Rows.{at_exchange, at_back, at_end}
+use Rattle.table.specs.Rows.{Exchange, Back}
+use Rattle.table.specs.mirror.Read.{said}
+use Rattle.projection.proofs.Rows.{words_are, narrowed, at_exchange, at_back, at_other}
 use Rattle.projection.proofs.Projection.plan_at.Goals as goal
 
-pub returns-in-1 : goal.returns-in-1
-returns-in-1 c =
-    at_exchange (ap (λ (x : List ℕ). get_or x 0 0) c.row.ensures) c.in-1.is (ap (λ (x : List ℕ). get_or x 1 0) c.row.ensures)
-    (ap (λ (x : List ℕ). get_or x 2 0) c.row.ensures) (c.from.ensures ∙ ap (λ (x : List ℕ). get_or x 3 0) c.row.ensures) c.after.ensures c.at_exchange.ensures
+pub returns-in-Exchange : goal.returns-in-Exchange
+returns-in-Exchange c =
+    let (k, a, b, f) = words_are _ _ _ _ (Exchange _ _ _) (sym (ap said c.in-Exchange.is) ∙ c.read.ensures) (omega arith) in
+    at_exchange (sym k) refl (sym a) (sym b) (sym f) c.after.ensures c.at_exchange.ensures
 
-pub returns-in-4 : goal.returns-in-4
-returns-in-4 c =
-    at_back (ap (λ (x : List ℕ). get_or x 0 0) c.row.ensures) c.in-4.is (ap (λ (x : List ℕ). get_or x 1 0) c.row.ensures) c.word.ensures
+pub returns-in-Back : goal.returns-in-Back
+returns-in-Back c =
+    let (k, a, b, f) = words_are _ _ _ _ (Back _ _ _) (sym (ap said c.in-Back.is) ∙ c.read.ensures) (omega arith) in
+    at_back (sym k) refl (sym a) (narrowed 4 c.narrow.ensures c.word.ensures)
 
 pub returns-in_default : goal.returns-in_default
 returns-in_default c =
-    at_end (ap (λ (x : List ℕ). get_or x 0 0) c.row.ensures) (omega arith) (omega arith) (omega arith) (c.word-in_default.ensures (omega arith))
+    at_other c.read.result c.read.ensures c.in_default.not-Exchange c.in_default.not-Loop c.in_default.not-Back (c.word-in_default.ensures (omega arith))
