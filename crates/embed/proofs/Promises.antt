@@ -5,7 +5,7 @@ use mathlib.Core.List.{List}
 use mathlib.Core.Path.{◌≡◌, sym, ◌∙◌, ap}
 use Rattle.table.specs.Limits.{Limits}
 use Rattle.table.specs.Check.{says}
-use Rattle.table.specs.declared.Verdict.{Verdict}
+use Rattle.table.specs.Check.{Verdict}
 use Rattle.opening.specs.Opening.{Opens}
 use Rattle.opening.proofs.Promises.{one_open, one_room}
 use Rattle.session.specs.Answers.{Answer, Awaiting}

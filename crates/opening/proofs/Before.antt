@@ -14,7 +14,7 @@ use Rattle.table.specs.Limits.{Limits}
 use Rattle.table.specs.Numbers.{ACCEPTED, WORDS, ROLES, ROOM, NOPART}
 use Rattle.table.specs.Rules.{rules, words_broken, roles_broken}
 use Rattle.table.specs.Check.{says, accepted, refused, refused_at, sized, tested, check_of}
-use Rattle.table.specs.declared.Verdict.{Verdict}
+use Rattle.table.specs.Check.{Verdict}
 use Rattle.parts.specs.Part.{Part}
 use Rattle.parts.specs.Projection.{part_of, present}
 use Rattle.parts.specs.Layout.{block_of}

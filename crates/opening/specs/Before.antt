@@ -4,7 +4,7 @@ use Rattle.table.specs.Limits.{Limits}
 use Rattle.table.specs.Numbers.{ACCEPTED, ROOM, NOPART}
 use Rattle.table.specs.Rules.{rules}
 use Rattle.table.specs.Check.{accepted, refused, refused_at, sized, tested}
-use Rattle.table.specs.declared.Verdict.{Verdict}
+use Rattle.table.specs.Check.{Verdict}
 use Rattle.parts.specs.Before.{part_of_before}
 use Rattle.parts.specs.Projection.{part_of, present}
 use Rattle.parts.specs.Layout.{block_of}

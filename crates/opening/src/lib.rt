@@ -3,29 +3,24 @@
 
 pub mod marked;
 
-ghost use Rattle.std.specs.Prelude.{◌≡◌, ◌++◌, ◌*◌, ◌≤◌, length, drop};
+ghost use Rattle.std.specs.Prelude.{◌≡◌, ◌++◌, ◌*◌, ◌≤◌, OnOk, length, drop};
 ghost use Rattle.table.specs.Limits.{base};
+ghost use Rattle.table.specs.Refusals.{verdict_of};
 ghost use Rattle.opening.specs.Opening.{open_of, blocks, Opens};
 ghost use Rattle.projection.specs.mirror.Projects.{Complete};
 
 use projection::PARTS;
-use table::{Table, Verdict};
+use table::{Refusal, Rule, Table};
 
 // Every refusal is found here, before a word of the room is written. Accepted, the words of the parts stand in `parts`.
-fn verdict(table: &[u16], roles: usize, room: usize, parts: &mut [u16; PARTS]) -> Verdict
-    ensures { (result ≡ open_of base table.now roles room)
-        × (result.number ≡ 0 → Complete table.now roles parts.new × (roles * length table.now ≤ room)) }
+fn judge(table: &[u16], roles: usize, room: usize, parts: &mut [u16; PARTS]) -> Result<(), Refusal>
+    ensures verdict { verdict_of result ≡ open_of base table.now roles room }
+    ensures parts { OnOk result (Complete table.now roles parts.new) }
+    ensures room { OnOk result (roles * length table.now ≤ room) }
 {
-    let sizes = Table::sizes(table, roles);
-    let number = sizes.number;
-    if number != Verdict::ACCEPTED {
-        return sizes;
-    }
+    Table::sizes(table, roles)?;
     if room < roles * table.len() {
-        return Verdict {
-            number: Verdict::ROOM,
-            place: 0,
-        };
+        return Err(Refusal::of_all(Rule::Room));
     }
     projection::parts(table, roles, parts)
 }
@@ -37,23 +32,18 @@ fn fill(table: &[u16], roles: usize, parts: &[u16; PARTS], room: &mut [u16])
 {
     let rows = table.len() / 4;
     let mut loops = [0u16; Table::ROWS];
-    let mut role = 0;
     let mut code = 0;
-    while role < roles {
+    for role in 0..roles {
         code = layout::lay_out(parts, code, room, role * rows, rows, &mut loops);
-        role += 1;
     }
 }
 
-// Opens a table: the answer, and the room with every role's part, or as it was.
-pub fn open(table: &[u16], roles: usize, room: &mut [u16]) -> Verdict
-    ensures { Opens base table.now roles room.old result room.new }
+// Opens a table: the room holds every role's part, or stays as it was.
+pub fn open(table: &[u16], roles: usize, room: &mut [u16]) -> Result<(), Refusal>
+    ensures { Opens base table.now roles room.old (verdict_of result) room.new }
 {
     let mut parts = [0u16; PARTS];
-    let answer = verdict(table, roles, room.len(), &mut parts);
-    let number = answer.number;
-    if number == Verdict::ACCEPTED {
-        fill(table, roles, &parts, room);
-    }
-    answer
+    judge(table, roles, room.len(), &mut parts)?;
+    fill(table, roles, &parts, room);
+    Ok(())
 }

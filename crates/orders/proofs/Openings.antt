@@ -16,7 +16,7 @@ use Rattle.table.specs.Limits.{base}
 use Rattle.table.specs.Numbers.{WORDS, ROLES, ROOM, NOPART}
 use Rattle.table.specs.Rules.{Rule, rules, number, breaks, words_broken, roles_broken}
 use Rattle.table.specs.Check.{says, accepted, refused_at, tested}
-use Rattle.table.specs.declared.Verdict.{Verdict}
+use Rattle.table.specs.Check.{Verdict}
 use Rattle.table.proofs.Sizes.{Sized, measured}
 use Rattle.parts.specs.Projection.{part_of, present}
 use Rattle.opening.specs.Opening.{open_of, blocks, room_of}

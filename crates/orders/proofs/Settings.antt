@@ -9,7 +9,7 @@ use lib.ListN.{length, take, drop, replicate, length-drop}
 use borrow.Author.Tests.{le-leb, lt-leb, leb-true, eqb-true}
 use Rattle.words.proofs.Below.{and_both}
 use Rattle.table.specs.Limits.{base}
-use Rattle.table.specs.declared.Verdict.{Verdict}
+use Rattle.table.specs.Check.{Verdict}
 use Rattle.opening.specs.Opening.{open_of, blocks}
 use Rattle.session.specs.Calls.{fresh_of}
 use Rattle.lines.specs.Over.{all_below, fits, narrowed}

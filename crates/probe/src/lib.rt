@@ -7,12 +7,13 @@ use projection::PARTS;
 #[unsafe(no_mangle)]
 pub extern "C" fn probe_parts(table: &[u16], roles: usize) -> u8 {
     let mut work = [0u16; PARTS];
-    let verdict = projection::parts(table, roles, &mut work);
-    verdict.number
+    match projection::parts(table, roles, &mut work) {
+        Ok(()) => 0,
+        Err(refusal) => u8::from(refusal.rule),
+    }
 }
 
 #[unsafe(no_mangle)]
 pub extern "C" fn probe_join(work: &mut [u16], spare: &mut [u16], a: usize, b: usize) -> bool {
-    let joined = merge::join(work, spare, a, b);
-    joined.ok
+    merge::join(work, spare, a, b).is_ok()
 }

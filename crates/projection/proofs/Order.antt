@@ -14,7 +14,7 @@ use Rattle.table.specs.Numbers.{WORDS, ROLES, NOPART}
 use Rattle.table.specs.Rules.{Rule, kind, field, link, named, twice, unbound, unguarded, rules, number, breaks, words_broken, roles_broken}
 use Rattle.table.specs.Check.{Verdict, says, accepted, refused, refused_at, sized, tested, check_of}
 use Rattle.table.specs.Refusals.{verdict_of}
-use Rattle.rules.proofs.Order.{some_number}
+use Rattle.table.proofs.Refusals.{some_number}
 use Rattle.table.specs.declared.refusal.Refusal.{Refusal}
 use Rattle.std.specs.Prelude.{Result, Ok, Err, OnOk, ⊤}
 use Rattle.parts.specs.mirror.Stands.{Stands}

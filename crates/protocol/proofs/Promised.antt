@@ -16,7 +16,7 @@ use Rattle.table.specs.Limits.{Limits, base}
 use Rattle.table.specs.Numbers.{ACCEPTED}
 use Rattle.table.specs.Rules.{Rule, rules, number, breaks, words_broken, roles_broken}
 use Rattle.table.specs.Tree.{Global, Arms, tree_of}
-use Rattle.table.specs.declared.Verdict.{Verdict}
+use Rattle.table.specs.Check.{Verdict}
 use Rattle.parts.specs.Projection.{part_of, present}
 use Rattle.opening.specs.Opening.{open_of, blocks, room_of}
 use Rattle.session.specs.Calls.{answers, fresh_of, send_of, receive_of}

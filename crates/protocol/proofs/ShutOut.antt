@@ -18,7 +18,7 @@ use Rattle.table.specs.Limits.{Limits, base}
 use Rattle.table.specs.Numbers.{ACCEPTED, FIELD}
 use Rattle.table.specs.Rules.{breaks}
 use Rattle.table.specs.Tree.{Global, end, exchange, flight, loop, back, nil, arm, tree_of}
-use Rattle.table.specs.declared.Verdict.{Verdict}
+use Rattle.table.specs.Check.{Verdict}
 use Rattle.parts.specs.Merge.{merge}
 use Rattle.opening.specs.Marked.{t1, t5, t11}
 use Rattle.opening.specs.Opening.{open_of, room_of}

@@ -3,7 +3,7 @@ use Rattle.std.specs.Prelude.{ℕ, ◌*◌, List, ◌≢◌, ◌≡◌, length, 
 use Rattle.table.specs.Limits.{base}
 use Rattle.table.specs.Numbers.{ACCEPTED}
 use Rattle.table.specs.Tree.{Arms}
-use Rattle.table.specs.declared.Verdict.{Verdict}
+use Rattle.table.specs.Check.{Verdict}
 use Rattle.opening.specs.Opening.{Opens}
 use Rattle.state.specs.Numbers.{STRAY}
 use Rattle.session.specs.Promises.{Freshens, Sends, Receives, Awaits}

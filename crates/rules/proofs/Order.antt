@@ -17,30 +17,15 @@ use Rattle.table.specs.Numbers.{TWICE}
 use Rattle.table.specs.Rows.{row}
 use Rattle.table.specs.Rules.{Rule, kind, field, link, named, twice, unbound, unguarded, number, breaks, twice_broken}
 use Rattle.table.specs.Check.{Verdict, says, accepted, refused_at, tested}
-use Rattle.table.specs.Refusals.{number_of, verdict_of}
+use Rattle.table.specs.Refusals.{verdict_of}
+use Rattle.table.proofs.Refusals.{some_number}
 use Rattle.table.specs.declared.refusal.Refusal.{Refusal}
-use Rattle.table.specs.declared.refusal.Rule.{Rule as Refused}
-use Rattle.table.specs.declared.refusal.Rule.TheVariants.{Words, Roles, Room, Kind, Field, Link, Named, Twice, Unbound, Unguarded, NoPart}
 use Rattle.table.specs.mirror.Names.{Rising}
 use Rattle.table.proofs.Links.{rising}
 use Rattle.rules.specs.mirror.Chain.{chain_of}
 use Rattle.rules.specs.mirror.Blame.{IsLeast}
 use Rattle.rules.proofs.Least.{least_refused, least_accepted}
 use Rattle.rules.proofs.Repeats.{twice_sound, twice_complete}
-
--- every refusal has a number of its own
-pub some_number : (r : Refused) → 0 < number_of r
-some_number Words = omega arith
-some_number Roles = omega arith
-some_number Room = omega arith
-some_number Kind = omega arith
-some_number Field = omega arith
-some_number Link = omega arith
-some_number Named = omega arith
-some_number Twice = omega arith
-some_number Unbound = omega arith
-some_number Unguarded = omega arith
-some_number NoPart = omega arith
 
 rule_number : (k : Rule) → 0 < number k
 rule_number kind = omega arith

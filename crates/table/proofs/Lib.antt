@@ -10,3 +10,4 @@ pub mod Weight
 pub mod Claims
 pub mod Rowwise
 pub mod Promises
+pub mod Refusals

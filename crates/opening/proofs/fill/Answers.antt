@@ -10,12 +10,6 @@ loop-role-init c = (omega arith, refl, refl, laid_none _ _)
 pub overflow_mul-role : goal.overflow_mul-role
 overflow_mul-role c = record { fits = omega (arith, first_row c.requires.0 c.loop-role-test.true) }
 
-pub overflow_add-role : goal.overflow_add-role
-overflow_add-role c = omega (arith, c.loop-role-test.true)
-
-pub loop-role-smaller : goal.loop-role-smaller
-loop-role-smaller c = omega (arith, c.loop-role-test.true)
-
 pub loop-role-preserved : goal.loop-role-preserved
 loop-role-preserved c =
     let was = c.loop-role.invariant in

