@@ -355,6 +355,7 @@ fn comes_first(src: &[u16], x: usize, y: u16) -> bool
 }
 
 // The place behind the arms from `a` on that come before the arm whose word is y.
+#[tactic(auto, using(crate::proofs::Steps::first_is))]
 fn behind_arms(src: &[u16], a: usize, y: u16) -> usize
     ensures { result ≡ behind_arms src.now a y }
 {
@@ -395,6 +396,7 @@ fn shares(src: &[u16], x: usize, y: usize) -> bool
 }
 
 // The places behind what the parts at `a` and `b` open in common, and how many actions that is.
+#[tactic(auto, using(crate::proofs::Steps::shares_inside))]
 fn in_common(src: &[u16], a: usize, b: usize) -> Common
     ensures { result ≡ common_on (length src.now) src.now a b 0 }
 {
