@@ -1,21 +1,25 @@
 -- The writing of a part's codes leaves exactly the part's layout. Assumes nothing.
-use Prim.Native.Nat.{ℕ, zero, suc, ◌+◌, ◌*◌, ◌-◌, ◌/◌, ◌%◌, ◌<◌, ◌≤◌}
+use Prim.Native.Nat.{ℕ, zero, suc, ◌+◌, ◌*◌, ◌-◌, ◌<◌, ◌≤◌}
 use mathlib.Core.Bool.{Bool, true, false}
 use mathlib.Core.List.{List, [], ◌∷◌, ◌++◌}
-use mathlib.Core.Path.{◌≡◌, refl, sym, ◌∙◌}
+use mathlib.Core.Path.{◌≡◌, refl, sym, ◌∙◌, ap}
 use native.Mathlib.Omega.{arith}
 use native.Mathlib.Numerals.{add-one}
 use lib.Dec.{ltb}
 use lib.ListN.{get_or, length, set, replicate, length-append, length-set, length-replicate, replicate-append-replicate, get_or-eq_default}
 use lib.Seq.{sets, length-sets, get_or-set_same, get_or-set_other}
-use borrow.Author.Tests.{lt-ltb, le-ltb, le-leb, ne_eqb, ltb-true, ltb-false}
+use borrow.Author.Tests.{le-ltb, le-leb, ltb-true, ltb-false}
 use Rattle.words.specs.Rows.{put_row}
 use Rattle.parts.specs.Part.{Part, p_end, p_send, p_receive, p_loop, p_back, PartArms, p_nil, p_arm}
 use Rattle.parts.specs.Layout.{size, size_arms, four, next_arm, layout, layout_arms, block}
 use Rattle.parts.specs.mirror.Codes.{code, codes, codes_arms}
 use Rattle.parts.specs.mirror.Stands.{Stands}
-use Rattle.layout.specs.mirror.Lay.{LIMIT, kind_of, arg_of, inside, InRange, step_at, loop_row, next_row, Lay, run_s, end_s, clear_s, lay_out, Spacious}
-use Rattle.layout.proofs.Lays.{run_at, next_arm_lem, next_none}
+use Rattle.std.specs.Prelude.{unwrap_or}
+use Rattle.parts.specs.declared.Code.TheVariants.{End, Mark, Arm, Loop, Back, Send, Receive}
+use Rattle.parts.specs.mirror.Kinds.{kind_with, code_of}
+use Rattle.parts.proofs.Read.{code_is}
+use Rattle.layout.specs.mirror.Lay.{LIMIT, put_action, InRange, step_at, loop_row, next_row, Lay, run_s, end_s, clear_s, lay_out, Spacious}
+use Rattle.layout.proofs.Lays.{run_at, step_in}
 use Rattle.layout.proofs.Stores.{row_is, length_row, row_then, row_kept, row_again}
 use Rattle.parts.proofs.Lengths.{length_layout, size_pos}
 use Rattle.parts.proofs.Sizes.{words_twice}
@@ -27,13 +31,12 @@ record Around (loops : List ℕ) (depth : ℕ) (around : List ℕ) : Type 0 wher
   pub many : length around ≡ depth
   pub each : (k : ℕ) → k < depth → get_or around k 0 ≡ get_or loops (depth - 1 - k) 0
 
-around_back : (loops : List ℕ) (depth : ℕ) (around : List ℕ) (w k : ℕ) → w % 8 ≡ 4 → w / 8 ≡ k → Around loops depth around
-    → loop_row w loops depth ≡ get_or around k 0
-around_back loops depth around w k e4 ek h = go (ltb k depth) refl
+around_back : (loops : List ℕ) (depth : ℕ) (around : List ℕ) (k : ℕ) → Around loops depth around → unwrap_or (loop_row k loops depth) 0 ≡ get_or around k 0
+around_back loops depth around k h = go (ltb k depth) refl
   where
-    go : (b : Bool) → ltb k depth ≡ b → loop_row w loops depth ≡ get_or around k 0
-    go true e = rw (e4, ek, e) (sym (h.each k (ltb-true k depth e)))
-    go false e = rw (e4, ek, e) (sym (get_or-eq_default around 0 (omega (arith, ltb-false k depth e, h.many))))
+    go : (b : Bool) → ltb k depth ≡ b → unwrap_or (loop_row k loops depth) 0 ≡ get_or around k 0
+    go true e = rw e (sym (h.each k (ltb-true k depth e)))
+    go false e = rw e (sym (get_or-eq_default around 0 (omega (arith, ltb-false k depth e, h.many))))
 
 around_kept : (loops loops' : List ℕ) (depth : ℕ) (around : List ℕ) → Around loops depth around → ((k : ℕ) → k < depth → get_or loops' k 0 ≡ get_or loops k 0)
     → Around loops' depth around
@@ -51,32 +54,16 @@ around_loop loops depth around row h a = record { many = omega (arith, a.many); 
 
 -- ---- one code
 
--- the code of a kind and its argument taken apart
-kind_is : (s : List ℕ) (i k x : ℕ) → k < 8 → get_or s i 0 ≡ code k x → kind_of s i ≡ k
-kind_is s i k x h e = rw e (omega arith)
-
-arg_is : (s : List ℕ) (i k x : ℕ) → k < 8 → get_or s i 0 ≡ code k x → arg_of s i ≡ x
-arg_is s i k x h e = rw e (omega arith)
-
-inside_yes : (n i from row depth : ℕ) → InRange n i from row depth → inside n i from row depth ≡ true
-inside_yes n i from row depth h =
-    rw
-    (lt-ltb 0 n h.some_left, lt-ltb i LIMIT h.code_in, le-leb from LIMIT h.from_in, lt-ltb row LIMIT h.row_in, lt-ltb depth LIMIT h.depth_in)
-
-step_of : (n : ℕ) (s : List ℕ) (i from row depth k x : ℕ) → k < 6 → get_or s i 0 ≡ code k x → InRange n i from row depth → k ≡ step_at n s i from row depth
-unfolding step_at
-step_of n s i from row depth k x h e w =
-    rw (inside_yes n i from row depth w, kind_is s i k x (omega arith) e, ne_eqb k 6 (λ z. omega arith))
-
-step_six : (n : ℕ) (s : List ℕ) (i from row depth x : ℕ) → get_or s i 0 ≡ code 6 x → InRange n i from row depth → 5 ≡ step_at n s i from row depth
-unfolding step_at
-step_six n s i from row depth x e w = rw (inside_yes n i from row depth w, kind_is s i 6 x (omega arith) e)
+-- the code of a word of a part
+code_there : (n : ℕ) (s : List ℕ) (i from row depth k x : ℕ) → k < 8 → get_or s i 0 ≡ code k x → InRange n i from row depth → kind_with k x ≡ step_at n s i from row depth
+code_there n s i from row depth k x h e w =
+    sym (code_is k x h) ∙ ap code_of (sym e) ∙ step_in n s i from row depth (get_or s i 0) w refl
 
 -- the next arm, from the code behind the continuation
-next_is : (ps : PartArms) (s : List ℕ) (i row : ℕ) → row ≤ LIMIT → Stands s i (codes_arms ps) → next_row s i row ≡ next_arm row ps
+next_is : (ps : PartArms) (s : List ℕ) (i row : ℕ) → row ≤ LIMIT → Stands s i (codes_arms ps) → unwrap_or (next_row s i row) 0 ≡ next_arm row ps
 unfolding codes next_arm
-next_is p_nil s i row h w = sym (next_none s i row (get_or s i 0) refl h (λ z. omega (arith, kind_is s i 1 0 (omega arith) w.0)))
-next_is (p_arm l P ps) s i row h w = sym (next_arm_lem s i row (get_or s i 0) refl h (kind_is s i 2 l (omega arith) w.0))
+next_is p_nil s i row h w = rw (le-leb row LIMIT h, w.0)
+next_is (p_arm l P ps) s i row h w = rw (le-leb row LIMIT h, w.0, code_is 2 l (omega arith))
 
 -- ---- a part, or the arms of an action, of c codes and z rows
 
@@ -130,12 +117,14 @@ module _ (s : List ℕ) (from : ℕ) where
       (row_then out (from + row) a b c d ((from + suc row) * 4) ws (omega arith) (omega arith)) (λ k l. refl) refl w
 
   -- a Send or a Receive, from its arms; k is its kind
-  acted : (k q : ℕ) (ps : PartArms) → k < 8 → ((n i row depth : ℕ) → get_or s i 0 ≡ code k q → InRange n i from row depth → 5 ≡ step_at n s i from row depth)
+  acted : (k q : ℕ) (ps : PartArms)
+      → ((n i : ℕ) (out : List ℕ) (row : ℕ) (loops : List ℕ) (depth wait : ℕ) → get_or s i 0 ≡ code k q → InRange n i from row depth
+      → run_s n s from i out row loops depth wait ≡ run_s (n - 1) s from (i + 1) (put_action k q out from row) (row + 1) loops depth wait)
       → Writes (codes_arms ps) (size_arms ps) (λ row around. layout_arms row around ps)
       → Writes (code k q ∷ codes_arms ps) (suc (size_arms ps)) (λ row around. four k q (suc row) 0 ++ layout_arms (suc row) around ps)
-  acted k q ps lk step arms n n' i out row loops depth wait around i' row' h f a ei er =
+  acted k q ps run arms n n' i out row loops depth wait around i' row' h f a ei er =
       rw
-      (run_at n s from i out row loops depth wait 5 (step n i row depth h.0 (omega arith)), kind_is s i k q lk h.0, arg_is s i k q lk h.0, add-one row, add-one i)
+      (run n i out row loops depth wait h.0 (omega arith), add-one row, add-one i)
       (headed n' i' row row' k q (suc row) 0 depth wait out (layout_arms (suc row) around ps) loops _ (omega arith)
       (arms (n - 1) n' (suc i) (put_row out (from + row) k q (suc row) 0) (suc row) loops depth wait around i' row' h.1
       (omega (arith, length_row out (from + row) k q (suc row) 0 (omega arith))) a (omega arith) (omega arith)))
@@ -154,14 +143,14 @@ module _ (s : List ℕ) (from : ℕ) where
       length_row (opened row l depth wait vs out) (from + row) 2 l (suc row) next (omega arith) ∙ then ∙ first
 
   -- the end of an arm's continuation gives the arm its links and goes on with what its row kept
-  resumed : (n i row r l depth wait next : ℕ) (out vs loops : List ℕ) → next_row s i r ≡ next → (from + row + 1) * 4 + length vs ≤ length out
+  resumed : (n i row r l depth wait next : ℕ) (out vs loops : List ℕ) → unwrap_or (next_row s i r) 0 ≡ next → (from + row + 1) * 4 + length vs ≤ length out
       → end_s n s from i (opened row l depth wait vs out) r loops (suc row) ≡ run_s n s from i (linked row l depth wait next vs out) r loops depth wait
   resumed n i row r l depth wait next out vs loops en h =
       let held = row_kept out (from + row) 2 l depth wait ((from + suc row) * 4) vs (omega arith) (omega arith) in
       rw (held.0, held.1, held.2, en)
 
   -- an arm and its continuation, and what the turns after them write
-  closed : (n i r n' i' row row' l depth wait next k : ℕ) (out vs ws loops : List ℕ) (m : Lay) → next_row s i r ≡ next
+  closed : (n i r n' i' row row' l depth wait next k : ℕ) (out vs ws loops : List ℕ) (m : Lay) → unwrap_or (next_row s i r) 0 ≡ next
       → (from + row + 1) * 4 + length vs ≤ length out → k ≡ (from + suc row) * 4 + length vs
       → (mid : Wrote n i (opened row l depth wait vs out) r loops depth (suc row) m)
       → Wrote n' i' (sets (linked row l depth wait next vs out) k ws) row' mid.lent depth wait (run_s n s from i (linked row l depth wait next vs out) r mid.lent depth wait)
@@ -186,7 +175,7 @@ module _ (s : List ℕ) (from : ℕ) where
       let mid = part (n - 1) (length (codes_arms ps) + n') (suc i) (put_row out (from + row) 2 l depth wait) (suc row) loops depth (suc row) around (suc i + length (codes P)) (suc row + size P)
       (stands_front s (suc i) (codes P) (codes_arms ps) h.1) (omega (arith, length_row out (from + row) 2 l depth wait (omega arith))) a refl refl in
       rw
-      (run_at n s from i out row loops depth wait 2 (step_of n s i from row depth 2 l (omega arith) h.0 (omega arith)), add-one row, add-one i, arg_is s i 2 l (omega arith) h.0)
+      (run_at n s from i out row loops depth wait (Arm l) (code_there n s i from row depth 2 l (omega arith) h.0 (omega arith)), add-one row, add-one i)
       (closed (length (codes_arms ps) + n') (suc i + length (codes P)) (suc row + size P) n' i' row row' l depth wait next ((from + (suc row + size P)) * 4)
       out vs (layout_arms (suc row + size P) around ps) loops _ (next_is ps s (suc i + length (codes P)) (suc row + size P) (omega arith) rest)
       (omega arith) (omega arith) mid
@@ -199,21 +188,22 @@ module _ (s : List ℕ) (from : ℕ) where
 
     writes : (P : Part) → Writes (codes P) (size P) (λ row around. layout row around P)
     writes p_end n n' i out row loops depth wait around i' row' h f a ei er =
-        rw (run_at n s from i out row loops depth wait 0 (step_of n s i from row depth 0 0 (omega arith) h.0 (omega arith)), kind_is s i 0 0 (omega arith) h.0)
+        rw (run_at n s from i out row loops depth wait End (code_there n s i from row depth 0 0 (omega arith) h.0 (omega arith)))
         (leaf n n' i i' (row + 1) row' depth wait _ _ loops (omega arith) ei er (row_is out (from + row) 0 0 0 0 (omega arith)))
     writes (p_back k) n n' i out row loops depth wait around i' row' h f a ei er =
-        let four_is = kind_is s i 4 k (omega arith) h.0 in
         rw
-        (run_at n s from i out row loops depth wait 4 (step_of n s i from row depth 4 k (omega arith) h.0 (omega arith)), around_back loops depth around (get_or s i 0) k four_is (arg_is s i 4 k (omega arith) h.0) a, four_is)
+        (run_at n s from i out row loops depth wait (Back k) (code_there n s i from row depth 4 k (omega arith) h.0 (omega arith)), around_back loops depth around k a)
         (leaf n n' i i' (row + 1) row' depth wait _ _ loops (omega arith) ei er (row_is out (from + row) 4 (get_or around k 0) 0 0 (omega arith)))
     writes (p_send q ps) n n' i out row loops depth wait around i' row' h f a ei er =
-        acted 5 q ps (omega arith) (λ m j r d e w. step_of m s j from r d 5 q (omega arith) e w) (λ m m' j o r l d x v j' r' t u w y z. writes_arms ps m m' j o r l d x v j' r' t u w y z)
+        acted 5 q ps (λ m j o r l d x e w. run_at m s from j o r l d x (Send q) (code_there m s j from r d 5 q (omega arith) e w))
+        (λ m m' j o r l d x v j' r' t u w y z. writes_arms ps m m' j o r l d x v j' r' t u w y z)
         n n' i out row loops depth wait around i' row' h f a ei er
     writes (p_receive q ps) n n' i out row loops depth wait around i' row' h f a ei er =
-        acted 6 q ps (omega arith) (λ m j r d e w. step_six m s j from r d q e w) (λ m m' j o r l d x v j' r' t u w y z. writes_arms ps m m' j o r l d x v j' r' t u w y z)
+        acted 6 q ps (λ m j o r l d x e w. run_at m s from j o r l d x (Receive q) (code_there m s j from r d 6 q (omega arith) e w))
+        (λ m m' j o r l d x v j' r' t u w y z. writes_arms ps m m' j o r l d x v j' r' t u w y z)
         n n' i out row loops depth wait around i' row' h f a ei er
     writes (p_loop P) n n' i out row loops depth wait around i' row' h f a ei er =
-        rw (run_at n s from i out row loops depth wait 3 (step_of n s i from row depth 3 0 (omega arith) h.0 (omega arith)), add-one row, add-one i)
+        rw (run_at n s from i out row loops depth wait Loop (code_there n s i from row depth 3 0 (omega arith) h.0 (omega arith)), add-one row, add-one i)
         (headed n' i' row row' 3 (suc row) 0 0 depth wait out (layout (suc row) (row ∷ around) P) loops _ (omega arith)
         (after n' i' row' (depth + 1) depth wait _ _ (set loops depth row) loops _ (omega arith) refl
         (λ j l. get_or-set_other loops depth j row 0 (λ z. omega arith)) (length-set loops depth row)
@@ -223,7 +213,7 @@ module _ (s : List ℕ) (from : ℕ) where
 
     writes_arms : (ps : PartArms) → Writes (codes_arms ps) (size_arms ps) (λ row around. layout_arms row around ps)
     writes_arms p_nil n n' i out row loops depth wait around i' row' h f a ei er =
-        rw (run_at n s from i out row loops depth wait 1 (step_of n s i from row depth 1 0 (omega arith) h.0 (omega arith)), kind_is s i 1 0 (omega arith) h.0)
+        rw (run_at n s from i out row loops depth wait Mark (code_there n s i from row depth 1 0 (omega arith) h.0 (omega arith)))
         (leaf n n' i i' row row' depth wait _ _ loops (omega arith) ei (omega arith) refl)
     writes_arms (p_arm l P ps) n n' i out row loops depth wait around i' row' h f a ei er =
         armed l P ps (λ m m' j o r k d x v j' r' t u w y z. writes P m m' j o r k d x v j' r' t u w y z)

