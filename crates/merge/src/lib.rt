@@ -403,6 +403,7 @@ fn in_common(src: &[u16], a: usize, b: usize) -> Common
     let mut x = a;
     let mut y = b;
     let mut marks = 0;
+    // kept: both places go on by two words; chunks of two, zipped, would still need these three sums
     while shares(src, x, y) {
         x += 2;
         y += 2;

@@ -4,7 +4,6 @@ pub mod Laws
 pub mod Read
 pub mod Lengths
 pub mod Rising
-pub mod Seven
 pub mod Sizes
 pub mod Words
 pub mod Before

@@ -2,5 +2,4 @@ pub mod Codes
 pub mod Grows
 pub mod Kinds
 pub mod Rising
-pub mod Seven
 pub mod Stands

@@ -85,20 +85,3 @@ impl TryFrom<Code> for u16 {
         }
     }
 }
-
-pub const KINDS: u16 = 8;
-
-pub const END: u16 = 0;
-
-// Behind the last arm of an action.
-pub const MARK: u16 = 1;
-
-pub const ARM: u16 = 2;
-
-pub const LOOP: u16 = 3;
-
-pub const BACK: u16 = 4;
-
-pub const SEND: u16 = 5;
-
-pub const RECEIVE: u16 = 6;
