@@ -1,11 +1,12 @@
 -- Laws of the rows of a block: one step towards a head, one step along a chain. Assumes nothing.
-use Prim.Native.Nat.{ℕ, zero, suc, ◌*◌, min}
+use Prim.Native.Nat.{ℕ, zero, suc, ◌+◌, ◌-◌, ◌*◌, ◌<◌, ◌≤◌, min}
 use mathlib.Core.Bool.{Bool, true, false, cond}
 use mathlib.Core.List.{List, [], ◌∷◌}
 use mathlib.Core.Logic.{◌⊎◌, ⊎_elim}
 use mathlib.Core.Path.{◌≡◌, refl, sym, ◌∙◌, ap}
 use mathlib.Core.Option.{some}
 use lib.Dec.{eqb}
+use native.Mathlib.Omega.{arith}
 use borrow.Author.Tests.{eq-eqb, ne_eqb}
 use Rattle.std.specs.Prelude.{Ok, Err}
 use Rattle.blocks.specs.Block.{PartRow, part_row, block_rows, is_arm, is_head}
@@ -60,28 +61,33 @@ unfolding chain_at
 chain_more ts start m zero h = absurd (h refl)
 chain_more ts start m (suc i) h = refl
 
--- w is row i of the block that begins at `start`, and n is one more than m
-module _ (ts : List ℕ) (start : ℕ) {n m : ℕ} (i : ℕ) (w : Row) (e : n ≡ suc m) (read : said w ≡ row_at ts start i) (z : i ≡ 0 → ⊥) where
-  chain_step : chain_at n ts start i ≡ arm_then (λ j. chain_at m ts start j) (said w)
-  chain_step = rw (e, read) (chain_more ts start m i z)
+-- w is row i of the block that begins at `start`, and k rows of n were met before it
+module _ (ts : List ℕ) (start n k i : ℕ) (w : Row) (turning : k < n) (read : said w ≡ row_at ts start i) (z : i ≡ 0 → ⊥) where
+  chain_step : chain_at (n - k) ts start i ≡ arm_then (λ j. chain_at (n - (k + 1)) ts start j) (said w)
+  chain_step = let e : n - k ≡ suc (n - (k + 1)) = omega arith in rw (e, read) (chain_more ts start (n - (k + 1)) i z)
 
-  pub lookup_ends : (l k : ℕ) → ((l c n : ℕ) → w ≡ Arm l c n → ⊥) → lookup l k (chain_at n ts start i) ≡ Err k
+  pub lookup_ends : (l least : ℕ) → ((l c n : ℕ) → w ≡ Arm l c n → ⊥) → lookup l least (chain_at (n - k) ts start i) ≡ Err least
   unfolding lookup
-  lookup_ends l k h = rw (chain_step, chain_ends (λ j. chain_at m ts start j) w h)
+  lookup_ends l least h = rw (chain_step, chain_ends (λ j. chain_at (n - (k + 1)) ts start j) w h)
 
   -- the row is an Arm
-  module _ {a c x : ℕ} (arm : w ≡ Arm a c x) (l k : ℕ) where
-    arm_read : chain_at n ts start i ≡ record { label = a; continuation = c } ∷ chain_at m ts start x
+  module _ (a c x : ℕ) (arm : w ≡ Arm a c x) (l least : ℕ) where
+    arm_read : chain_at (n - k) ts start i ≡ record { label = a; continuation = c } ∷ chain_at (n - (k + 1)) ts start x
     unfolding arm_then
     arm_read = chain_step ∙ rw arm
 
-    pub lookup_here : a ≡ l → lookup l k (chain_at n ts start i) ≡ Ok c
+    pub lookup_here : a ≡ l → lookup l least (chain_at (n - k) ts start i) ≡ Ok c
     unfolding lookup
     lookup_here h = rw (arm_read, h, eq-eqb l l refl)
 
-    pub lookup_on : (a ≡ l → ⊥) → lookup l k (chain_at n ts start i) ≡ lookup l (min k a) (chain_at m ts start x)
+    pub lookup_on : (a ≡ l → ⊥) → lookup l least (chain_at (n - k) ts start i) ≡ lookup l (min least a) (chain_at (n - (k + 1)) ts start x)
     unfolding lookup
     lookup_on h = rw (arm_read, lookup, ne_eqb l a (λ q. h (sym q)))
+
+-- every row was met
+pub chain_met : (ts : List ℕ) (start n k i : ℕ) → n ≤ k → chain_at (n - k) ts start i ≡ []
+unfolding chain_at
+chain_met ts start n k i le = let e : n - k ≡ 0 = omega arith in rw (e, chain_at)
 
 pub chain_none : (ts : List ℕ) (start n i : ℕ) → i ≡ 0 → chain_at n ts start i ≡ []
 unfolding chain_at
