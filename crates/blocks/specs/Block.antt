@@ -1,4 +1,4 @@
--- Document 01, 'Parts: projection and merge': what a row of a role's block says. Assumes nothing.
+-- The customer's paper, 'Parts: projection and merge': what a row of a role's block says. Assumes nothing.
 use Rattle.std.specs.Prelude.{ℕ, zero, suc, ◌+◌, ◌*◌, ◌/◌, Bool, true, false, List}
 use Rattle.words.specs.Rows.{word, rows_of}
 

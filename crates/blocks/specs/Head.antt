@@ -1,4 +1,4 @@
--- Document 01: the head of a row, and the arms of a head. Assumes nothing.
+-- The customer's paper: the head of a row, and the arms of a head. Assumes nothing.
 use Rattle.std.specs.Prelude.{ℕ, zero, suc, min, Bool, cond, List, [], ◌∷◌, eqb}
 use Rattle.std.proofs.Math.Option.{Option, none, some}
 use Rattle.blocks.specs.Block.{PartRow, End, Arm, Loop, Back, Send, Receive, Other, part_row, block_rows, is_head}

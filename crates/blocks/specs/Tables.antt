@@ -1,4 +1,4 @@
--- Document 01, 'Sessions': tables that are well formed for a step. Assumes nothing.
+-- The customer's paper, 'Sessions': tables that are well formed for a step. Assumes nothing.
 use Rattle.std.specs.Prelude.{ℕ, ◌*◌, Bool, false, ◌&&◌, ◌||◌, not, List, ltb, leb, eqb, length}
 use Rattle.words.specs.Below.{every}
 use Rattle.table.specs.Limits.{Limits}

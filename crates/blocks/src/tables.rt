@@ -119,7 +119,7 @@ impl<'a> Notes<'a> {
 fn block_rows(tables: &[u16], roles: usize) -> Option<u16>
     ensures { result ≡ sized_rows base tables.now roles }
 {
-    if (roles < Table::FEWEST_ROLES) | (Table::ROLES < roles) {
+    if !(Table::FEWEST_ROLES..=Table::ROLES).contains(&roles) {
         return None;
     }
     let rows = tables.len() / 4 / roles;
