@@ -62,6 +62,7 @@ fn row_at(tables: &[u16], start: usize, row: u16) -> Row
 
 // The continuation of the arm with that label, in the chain that starts at `first`, of at most that many rows: the one lookup of send,
 // receive and awaited. A lookup that fails has met every arm, and so knows the lowest label.
+// kept: docs/THEOREMS.md names this function, so it takes any tables, start and number of rows and no block.
 #[tactic(auto, unfolding(crate::specs::mirror::Rows::lookup), using(crate::proofs::Walk::chain_none, crate::proofs::Walk::chain_met, crate::proofs::Walk::lookup_is))]
 pub fn find_arm(
     tables: &[u16],

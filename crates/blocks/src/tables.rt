@@ -72,10 +72,7 @@ impl<'a> Block<'a> {
                 self.to_other(row, body) & (second == 0) & (third == 0)
             }
             Row::Back(to, second, third) => self.to_loop(row, to) & (second == 0) & (third == 0),
-            Row::Send(peer, first, third) => {
-                self.is_peer(peer) & self.to_arm(row, first) & (third == 0)
-            }
-            Row::Receive(peer, first, third) => {
+            Row::Send(peer, first, third) | Row::Receive(peer, first, third) => {
                 self.is_peer(peer) & self.to_arm(row, first) & (third == 0)
             }
             Row::Other => false,
