@@ -1,4 +1,4 @@
--- Demand 1 over lent slices: a refused call leaves the slices as they were, with the values of document 01. For slices of any lengths.
+-- Over lent slices: a refused call leaves the slices as they were, with the customer's values. For slices of any lengths.
 -- Assumes nothing.
 use Rattle.std.specs.Prelude.{ℕ, cond, List}
 use Rattle.table.specs.Limits.{Limits}

@@ -1,4 +1,4 @@
--- Demand 3 holds of every table that opens. Assumes nothing.
+-- The engine accepts exactly what the step rules allow, for every table that opens. Assumes nothing.
 use Prim.Native.Nat.{ℕ, ◌+◌, ◌*◌, ◌≤◌, ◌<◌}
 use mathlib.Core.Bool.{true}
 use mathlib.Core.List.{List}
@@ -154,7 +154,7 @@ every_enough = record { sends = λ p q l _ _ _. every; receives = λ p q _ _. ev
 pub demand3 : (lim : Limits) → 0 < lim.depth → Demand3 lim
 demand3 lim deep = demand3_of lim Every every_enough deep
 
--- and so for those of document 01
+-- and so for the customer's limits
 pub demand3_base : Demand3 base
 demand3_base = demand3 base (omega arith)
 

@@ -132,7 +132,7 @@ still_fails e c = moves_nobody every every (still e) c (λ d _. refl)
 pub once_fails : {S : Type 0} (e : Engine S) → ¬ Conforms base Every (once e) t1 2
 once_fails e c = first_only every every (once e) c ACCEPTED (λ d d' _ _. refl)
 
--- one that gives T1's role 0 the number 16, and offers nothing (K2)
+-- one that gives T1's role 0 the number 16, and offers nothing
 pub silent_fails : {S : Type 0} (e : Engine S) (l : ℕ) → (e.answer (sends 0 1 l 0) e.fresh.state).number ≡ LABEL
     → ¬ Conforms base Every (silent e) t1 2
 silent_fails e l refused c =
@@ -379,7 +379,7 @@ module _ {S : Type 0} {may : Call → Type 0} (m : may says) (e : Engine S) (c :
       ((c.follows (says ∷ []) (flight 0 1 1 7 again) ms (accepted_call once_accepted said no_call)
       ).send_exactly 0 1 1 7 m).1 ((flight 0 1 1 7 (flight 0 1 1 7 again), rule_5 other said), omega (arith, held_one))
 
--- document 01's limits, but queues of one message
+-- the customer's limits, but queues of one message
 abbrev pub shallow : Limits
 shallow = record { roles = base.roles; rows = base.rows; labels = base.labels; depth = 1 }
 

@@ -130,7 +130,7 @@ k13_by_any_arm lim deep t roles room e pick picks =
 pub k13 : (lim : Limits) → 0 < lim.depth → K13 lim
 k13 lim deep t roles room e = strands_nothing _ (demand3 lim deep t roles room e) (k13_by_any_arm lim deep t roles room e)
 
--- and so for those of document 01
+-- and so for the customer's limits
 pub k13_base : K13 base
 k13_base = k13 base (omega arith)
 

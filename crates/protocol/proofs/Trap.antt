@@ -1,5 +1,5 @@
--- Why the proof of demand 3 speaks of covering and not of parts: with document 01's merge, as it stood before request K4, this table opens, and
--- after one step of role 3 what is left for role 2 in its two arms has no merge. With K4's it has one. By computation. Assumes nothing.
+-- Why the proof that the engine accepts what the step rules allow speaks of covering and not of parts: with the customer's first merge this table opens, and
+-- after one step of role 3 what is left for role 2 in its two arms has no merge. With today's it has one. By computation. Assumes nothing.
 use Prim.Native.Nat.{ℕ}
 use mathlib.Core.List.{List, [], ◌∷◌}
 use mathlib.Core.Logic.{◌≢◌}

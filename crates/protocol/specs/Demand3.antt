@@ -1,4 +1,5 @@
--- Demand 3: for every table that opens, and every sequence of sends and receives from a fresh session, refused ones among them. An engine
+-- The engine accepts exactly what the step rules allow: for every table that opens, and every sequence of sends and receives from a fresh
+-- session, refused ones among them. An engine
 -- says what its queues hold and who has ended; both are tied, to the accepted calls and to the tree. Assumes nothing.
 use Rattle.std.specs.Prelude.{ℕ, ◌*◌, ◌≤◌, ◌<◌, Bool, true, false, List, [], ◌∷◌, ◌≢◌, ◌↔◌, ◌≡◌, length, take}
 use Rattle.words.specs.Below.{how_many, set_of}
@@ -72,7 +73,7 @@ pub record Follows {S : Type 0} (lim : Limits) (may : Call → Type 0) (e : Engi
   pub never_stray : (p q : ℕ) → may (receives p q) → (e.answer (receives p q) s).number ≢ STRAY
   pub never_tables : (c : Call) → may c → (e.answer c s).number ≢ TABLES
   pub never_state : (c : Call) → may c → (e.answer c s).number ≢ STATE
-  -- a send that is refused for its label is offered the least that the step rules allow then (K2); every other answer has the limit's labels there
+  -- a send that is refused for its label is offered the least that the step rules allow then; every other answer has the limit's labels there
   pub send_offers : (p q l v : ℕ) → may (sends p q l v) → (e.answer (sends p q l v) s).number ≡ LABEL
       → let k = (e.answer (sends p q l v) s).offered in Allows G (send p q k v) × ((m : ℕ) → Allows G (send p q m v) → k ≤ m)
   pub else_offers : (c : Call) → may c → (e.answer c s).number ≢ LABEL → (e.answer c s).offered ≡ lim.labels

@@ -19,7 +19,7 @@ abbrev pub caller : Call → ℕ
 caller (sends p q l v) = p
 caller (receives p q) = q
 
--- an answer: the number, the label and the payload that a receive returns, the label that a refusal offers (K2), the next state
+-- an answer: the number, the label and the payload that a receive returns, the label that a refusal offers, the next state
 pub record Reply (S : Type 0) : Type 0 where
   pub number : ℕ
   pub label : ℕ
@@ -68,6 +68,6 @@ unfolding send_of receive_of
 answer_to lim ts roles (sends p q l v) s = send_of lim ts roles p q l v s
 answer_to lim ts roles (receives p q) s = receive_of lim ts roles p q s
 
--- the one that gives the answers of document 01
+-- the one that gives the customer's answers
 abbrev pub ours : Limits → List ℕ → ℕ → Engine Session
 ours lim ts roles = over lim ts roles (fresh_of lim ts roles) (answer_to lim ts roles) (awaited_of lim ts roles)

@@ -1,4 +1,4 @@
--- Request K2 said of the code's own answers: what is offered would be taken. Over any tables and states that its types hold. Assumes nothing.
+-- Of the code's own answers: what is offered would be taken. Over any tables and states that its types hold. Assumes nothing.
 use Rattle.std.specs.Prelude.{ℕ, List, ◌≢◌, ◌≡◌}
 use Rattle.table.specs.Limits.{base}
 use Rattle.state.specs.Numbers.{LABEL, STRAY}

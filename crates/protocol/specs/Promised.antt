@@ -1,4 +1,4 @@
--- Demand 3 said of the code's own answers: from the promises of its public calls to the record, with nothing between. Assumes nothing.
+-- That the engine accepts exactly what the step rules allow, said of the code's own answers: from the promises of its public calls to the record, with nothing between. Assumes nothing.
 use Rattle.std.specs.Prelude.{ℕ, ◌*◌, List, ◌≢◌, ◌≡◌, length, take}
 use Rattle.table.specs.Limits.{base}
 use Rattle.table.specs.Numbers.{ACCEPTED}

@@ -1,5 +1,5 @@
--- Demand 1 said of the code's own answers: a refused opening writes nothing in the room that is lent; a refused call hands the state back
--- unaltered, with the values of document 01. For the values that its types hold. Assumes nothing.
+-- Of the code's own answers: a refused opening writes nothing in the room that is lent; a refused call hands the state back
+-- unaltered, with the customer's values. For the values that its types hold. Assumes nothing.
 use Rattle.std.specs.Prelude.{ℕ, List, ◌≢◌, ◌≡◌}
 use Rattle.table.specs.Limits.{base}
 use Rattle.table.specs.Numbers.{ACCEPTED}

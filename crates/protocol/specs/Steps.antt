@@ -1,4 +1,4 @@
--- Document 01, 'Step rules of the global protocol': one constructor for each of its five rules. A is the type of payloads.
+-- The step rules of the global protocol: one constructor for each of its five rules. A is the type of payloads.
 -- The relation is inductive, so a step is allowed only where finitely many uses of the rules come down to rule 1 or 2. Assumes nothing.
 use Rattle.std.specs.Prelude.{ℕ, ◌≢◌, ◌≡◌}
 use Rattle.table.specs.Tree.{Global, exchange, flight, loop, Arms, nil, arm}

@@ -1,4 +1,4 @@
--- Document 01, 'Marked tables': what it says of sessions over T5 and T9, by computation. Assumes nothing.
+-- What is told of sessions over the marked tables T5 and T9, by computation. Assumes nothing.
 use Rattle.std.specs.Prelude.{ℕ, List, [], ◌∷◌, ◌≡◌, refl}
 use Rattle.std.proofs.Math.Decide.{ℕ_discrete}
 use Rattle.words.specs.Below.{every, lowest, sum}

@@ -1,4 +1,4 @@
--- Request K13, 'Nothing let in is stranded': from every state reached from a fresh session, for each held message a finite continuation of
+-- Nothing let in is stranded: from every state reached from a fresh session, for each held message a finite continuation of
 -- accepted calls that ends with that message being received, and for each role that has not ended one in which that role acts. Assumes nothing.
 use Rattle.std.specs.Prelude.{ℕ, zero, suc, ◌+◌, ◌*◌, ◌<◌, List, [], ◌∷◌, ◌++◌, ◌≡◌, length, take}
 use Rattle.table.specs.Check.{accepted}
@@ -53,12 +53,12 @@ pub record Acts {S : Type 0} (may : Call → Type 0) (e : Engine S) (s : S) (r :
 -- ---- nothing is stranded
 
 -- of an engine for so many roles in the state s, when w p q are the unread messages from p to q. The continuations are calls of this engine:
--- where it is one session among several (K6), they are that session's calls alone
+-- where it is one session among several, they are that session's calls alone
 pub record StrandsNothing {S : Type 0} (may : Call → Type 0) (e : Engine S) (roles : ℕ) (s : S) (w : ℕ → ℕ → List (ℕ × ℕ)) : Type 0 where
   pub received : (p q k : ℕ) (m : ℕ × ℕ) → Place (w p q) k m → IsReceived may e s p q k m
   pub acts : (r : ℕ) → r < roles → ¬ e.ended s r → Acts may e s r
 
--- after any calls from its fresh state, refused ones among them. Demand 3's `held_exactly` ties what is unread to what is held
+-- after any calls from its fresh state, refused ones among them. `held_exactly` ties what is unread to what is held
 abbrev pub NothingStranded : {S : Type 0} → (Call → Type 0) → Engine S → ℕ → Type 0
 NothingStranded may e roles = (cs : List Call) → Each may cs
     → StrandsNothing may e roles (after e cs e.fresh.state) (λ p q. unread e p q cs e.fresh.state [])

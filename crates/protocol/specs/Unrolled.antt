@@ -1,4 +1,4 @@
--- Document 01, 'Step rules of the global protocol': a loop's body with each of its backs replaced by the loop. Assumes nothing.
+-- The step rules of the global protocol: a loop's body with each of its backs replaced by the loop. Assumes nothing.
 use Rattle.std.specs.Prelude.{ℕ, zero, suc, List, [], ◌∷◌}
 use Rattle.table.specs.Tree.{Global, end, exchange, flight, loop, back, Arms, nil, arm}
 

@@ -1,3 +1,3 @@
-// Demand 3: the engine accepts exactly what the protocol's own step rules allow. This crate has definitions and theorems, and no code.
+// The engine accepts exactly what the protocol's own step rules allow. This crate has definitions and theorems, and no code.
 
 #![tactic(auto)]

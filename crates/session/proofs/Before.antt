@@ -1,4 +1,4 @@
--- Without what they offer, the answers are those of before K2. Assumes nothing.
+-- Without what they offer, the answers are those of before any was offered. Assumes nothing.
 use Prim.Native.Nat.{ℕ}
 use mathlib.Core.Bool.{Bool, true, false, not}
 use mathlib.Core.List.{List}

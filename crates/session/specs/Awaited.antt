@@ -1,4 +1,4 @@
--- Document 01, 'Sessions': the awaited roles. Assumes nothing.
+-- The awaited roles. Assumes nothing.
 use Rattle.std.specs.Prelude.{ℕ, Bool, cond, not, List, ltb}
 use Rattle.words.specs.Below.{lowest, how_many, set_of}
 use Rattle.table.specs.Limits.{Limits}

@@ -1,4 +1,4 @@
--- Request K2, 'Say what would have been taken': fresh, send and receive as document 01 alone has them, where a failed lookup gives nothing. Kept for the
+-- Fresh, send and receive as they were before a refusal said what would have been taken, where a failed lookup gives nothing. Kept for the
 -- theorem that acceptances do not move. Assumes nothing.
 use Rattle.std.specs.Prelude.{ℕ, Bool, cond, not, List, ◌≡◌, leb, eqb}
 use Rattle.std.proofs.Math.Option.{Option, none, some}

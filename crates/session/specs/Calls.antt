@@ -1,4 +1,4 @@
--- Document 01, 'Sessions' and 'What comes back': fresh, send and receive, for every input. Assumes nothing.
+-- Fresh, send and receive and what comes back, for every input. Assumes nothing.
 use Rattle.std.specs.Prelude.{ℕ, zero, suc, Bool, cond, not, List, [], ◌∷◌, ◌++◌, ltb, leb, eqb}
 use Rattle.std.proofs.Math.Option.{Option, none, some}
 use Rattle.table.specs.Limits.{Limits}

@@ -1,4 +1,4 @@
--- Request K2, 'Say what would have been taken': what an answer offers, and that it would be taken. For every input: refused with 16 or 19, the tables
+-- What an answer offers, and that it would be taken. For every input: refused with 16 or 19, the tables
 -- and the state were good. Assumes nothing.
 use Rattle.std.specs.Prelude.{ℕ, ◌<◌, ◌≤◌, true, List, ◌⊎◌, ◌≢◌, ◌≡◌}
 use Rattle.table.specs.Limits.{Limits}

@@ -1,4 +1,4 @@
--- Demand 1: a refused call hands the state back unaltered; document 01, 'What comes back': the values of a refused answer. For every input.
+-- A refused call hands the state back unaltered, and what the values of a refused answer are. For every input.
 -- Assumes nothing.
 use Rattle.std.specs.Prelude.{ℕ, List, ◌≢◌, ◌≡◌}
 use Rattle.table.specs.Limits.{Limits}

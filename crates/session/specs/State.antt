@@ -1,4 +1,4 @@
--- Document 01, 'Sessions': the state, and what a call changes of it. Assumes nothing.
+-- The state, and what a call changes of it. Assumes nothing.
 use Rattle.std.specs.Prelude.{ℕ, pred, ◌+◌, ◌*◌, Bool, List, [], ◌∷◌, ◌++◌, set, take, drop, replicate}
 use Rattle.std.proofs.lemmas.List.Edits.{sets}
 use Rattle.table.specs.Limits.{Limits}

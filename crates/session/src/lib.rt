@@ -13,6 +13,7 @@ ghost use Rattle.session.specs.Results.{answered, delivered, told};
 ghost use Rattle.session.specs.mirror.Taken.{takes};
 
 pub use answers::{Answer, Awaited, Message};
+use blocks::rows::Row;
 use blocks::tables::Blocks;
 pub use state::Refusal;
 use state::State;
@@ -38,7 +39,7 @@ impl Session {
     pub const SLOTS: usize = slots::SLOTS;
 
     // Nothing is offered: no label is so high.
-    pub const NOLABEL: u16 = Table::LABELS as u16;
+    pub const NOLABEL: u16 = Row::NOLABEL;
 
     // Every role at the head of row 0, the queues empty.
     pub fn fresh(tables: &[u16], roles: usize) -> Answer<()>
@@ -170,6 +171,7 @@ impl Session {
     pub fn awaited(self, tables: &[u16], roles: usize) -> Answer<Awaited>
         ensures { Awaits base tables.now roles self (told base result) }
     {
+        // kept: with `map` the proof did not close, since what the closure answers is not read back from its contract.
         let result = match self.view().awaited_roles(tables, roles) {
             Err(refusal) => Err(refusal),
             Ok(set) => Ok(Awaited { set }),

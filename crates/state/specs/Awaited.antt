@@ -1,4 +1,4 @@
--- Document 01, 'Sessions': when a role is awaited. Assumes nothing.
+-- When a role is awaited. Assumes nothing.
 use Rattle.std.specs.Prelude.{ℕ, Bool, true, false, ◌&&◌, List, ltb}
 use Rattle.std.proofs.Math.Option.{Option, none, some}
 use Rattle.table.specs.Limits.{Limits}

@@ -1,4 +1,4 @@
--- Document 01, 'What comes back': the names of the numbers 12 to 19. Assumes nothing.
+-- The names of the numbers 12 to 19 that come back from a refused call. Assumes nothing.
 use Rattle.std.specs.Prelude.{ℕ}
 
 abbrev pub TABLES : ℕ

@@ -1,4 +1,4 @@
--- Document 01, 'Sessions': the state's queues, and when a state is well formed. Assumes nothing.
+-- The state's queues, and when a state is well formed. Assumes nothing.
 use Rattle.std.specs.Prelude.{ℕ, ◌+◌, ◌*◌, Bool, cond, ◌&&◌, ◌||◌, not, List, ltb, leb, eqb, get_or}
 use Rattle.words.specs.Below.{every}
 use Rattle.table.specs.Limits.{Limits}

@@ -1,4 +1,4 @@
--- What merging gives, as a family: one constructor for each of document 01's rules. Everything that is proved of a merge is proved by
+-- What merging gives, as a family: one constructor for each of the merge's rules. Everything that is proved of a merge is proved by
 -- induction over it, so that another merge rule is another constructor. Assumes nothing.
 use Prim.Native.Nat.{ℕ}
 use mathlib.Core.Bool.{Bool, true, false, cond}

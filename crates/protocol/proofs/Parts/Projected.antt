@@ -1,4 +1,4 @@
--- The part of a role, as document 01 projects it, fits the tree. Assumes nothing.
+-- The part of a role, as the customer's paper projects it, fits the tree. Assumes nothing.
 use Prim.Native.Nat.{ℕ, suc}
 use mathlib.Core.Bool.{Bool, true, false, cond, ◌||◌, true≢false}
 use mathlib.Core.Logic.{◌≢◌}
