@@ -17,8 +17,10 @@ use Rattle.state.specs.declared.Refusal.TheVariants.{Tables, State, Party, Turn,
 use Rattle.state.specs.Refusals.{number_of, offered_of}
 use Rattle.state.specs.mirror.Turns.{send_turn, send_found, receive_turn, receive_found}
 use Rattle.state.specs.mirror.Judged.{send_judged, receive_judged}
-use Rattle.session.specs.State.{listed, head_of, held, label_at, state_good, moved, pushed}
-use Rattle.session.specs.Results.{label_or_none}
+use Rattle.session.specs.State.{listed, head_of, held, label_at, state_good, moved, pushed, taken}
+use Rattle.session.specs.Results.{label_or_none, answered, delivered}
+use Rattle.session.specs.declared.answers.Message.{Message}
+use Rattle.session.specs.mirror.Taken.{first_message}
 use Rattle.session.specs.Calls.{offering, answers, received, refused_if, send_arm, send_at, send_of, receive_arm, receive_at, receive_of}
 use Rattle.session.specs.declared.Session.{Session}
 use Rattle.session.specs.Answers.{Answer}
@@ -68,6 +70,14 @@ module _ (ts : List ℕ) (roles p q : ℕ) (s : Session) where
       (send_refused l v Party 14 (not (are_pair roles p q)) rest refl
       ∙ ap (refused_if base 14 (not (are_pair roles p q)) s) (send_row l v (part_row ts roles p (head_of s p)))))
 
+  -- what the tests answered, as the send answers it
+  pub send_refused_is : (l v : ℕ) {e : Refusal} → Err e ≡ send_judged base ts roles p q l (listed s) → answered base (record { result = Err e; state = s }) ≡ send_of base ts roles p q l v s
+  send_refused_is l v judged = ap (after_send l v) judged ∙ after_send_lem l v
+
+  pub send_done_is : (l v : ℕ) {h : ℕ} {t : Session} → Ok h ≡ send_judged base ts roles p q l (listed s) → t ≡ moved (pushed base s p q l v) p h
+      → answered base (record { result = Ok tt; state = t }) ≡ send_of base ts roles p q l v s
+  send_done_is l v judged done = rw done (ap (after_send l v) judged ∙ after_send_lem l v)
+
   abbrev pub after_receive : Result ℕ Refusal → Answer
   after_receive (Err e) = refused s e
   after_receive (Ok h) = received base s p q h
@@ -108,6 +118,13 @@ module _ (ts : List ℕ) (roles p q : ℕ) (s : Session) where
       ∙ ap (refused_if base 13 (not (state_good base ts roles s)) s)
       (receive_refused Party 14 (not (are_pair roles p q)) rest refl
       ∙ ap (refused_if base 14 (not (are_pair roles p q)) s) (receive_row (part_row ts roles q (head_of s q)))))
+
+  pub receive_refused_is : {e : Refusal} → Err e ≡ receive_judged base ts roles p q (listed s) → delivered base (record { result = Err e; state = s }) ≡ receive_of base ts roles p q s
+  receive_refused_is judged = ap after_receive judged ∙ after_receive_lem
+
+  pub receive_done_is : {h : ℕ} {m : Message} {t : Session} → Ok h ≡ receive_judged base ts roles p q (listed s) → m ≡ first_message base s p q → t ≡ moved (taken base s p q) q h
+      → delivered base (record { result = Ok m; state = t }) ≡ receive_of base ts roles p q s
+  receive_done_is judged got done = rw (got, done) (ap after_receive judged ∙ after_receive_lem)
 
 -- a refusal's number is not 0
 pub refused_number : (s : Session) (e : Refusal) → (refused s e).number ≡ 0 → ⊥

@@ -8,15 +8,13 @@ use native.Mathlib.Nat.{add-zero}
 use native.Mathlib.Numerals.{sub-one}
 use native.Mathlib.Omega.{arith}
 use borrow.Author.Tests.{lt-ltb}
-use Rattle.std.specs.Prelude.{Ok}
 use Rattle.table.specs.Limits.{base}
 use Rattle.slots.specs.mirror.Slots as slots
 use Rattle.slots.specs.mirror.Slots.{pushed_at, oldest, came_forward}
-use Rattle.session.specs.State.{forward, held, moved, pushed}
+use Rattle.session.specs.State.{forward, held, moved, pushed, taken}
 use Rattle.session.specs.declared.Session.{Session}
-use Rattle.session.specs.declared.answers.Answer as code
 use Rattle.session.specs.declared.answers.Message.{Message}
-use Rattle.session.specs.mirror.Taken.{takes}
+use Rattle.session.specs.mirror.Taken.{first_message}
 
 -- four words written one by one
 pub four_sets : (ws : List ℕ) (i a b c d : ℕ) → set (set (set (set ws i a) (i + 1) b) (i + 2) c) (i + 3) d ≡ sets ws (i + 0) (a ∷ b ∷ c ∷ d ∷ [])
@@ -72,16 +70,11 @@ push_read s p q l v h lp lq room is fl fp =
 pub taken_read : (s : Session) (p q h : ℕ) {l v : ℕ} {labels payloads : List ℕ} → p < 8 → q < 8
     → l ≡ oldest base 0 s.labels (p * 8 + q) → v ≡ oldest base 0 s.payloads (p * 8 + q)
     → labels ≡ came_forward base 0 s.labels (p * 8 + q) → payloads ≡ came_forward base 0 s.payloads (p * 8 + q)
-    → ◌≡◌ {A = code.Answer Message} (record {
-      result = Ok (record { label = l; payload = v });
-      state = record { heads = set s.heads q h; counts = set s.counts (p * 8 + q) (get_or s.counts (p * 8 + q) 0 - 1); labels = labels; payloads = payloads };
-    }) (takes base s p q h)
+    → ◌≡◌ {A = Message} (record { label = l; payload = v }) (first_message base s p q)
+    × ◌≡◌ {A = Session} (record { heads = set s.heads q h; counts = set s.counts (p * 8 + q) (get_or s.counts (p * 8 + q) 0 - 1); labels = labels; payloads = payloads })
+    (moved (taken base s p q) q h)
 taken_read s p q h lp lq el ev fl fp =
-    let low : p * 8 + q < 64 = omega arith in
-    rw (
-      el ∙ first_held s.labels (p * 8 + q) low,
-      ev ∙ first_held s.payloads (p * 8 + q) low,
-      fl ∙ came_forward_lem s.labels (p * 8 + q) low,
-      fp ∙ came_forward_lem s.payloads (p * 8 + q) low,
-      sub-one (get_or s.counts (p * 8 + q) 0),
+    let low : p * 8 + q < 64 = omega arith in (
+      rw (el ∙ first_held s.labels (p * 8 + q) low, ev ∙ first_held s.payloads (p * 8 + q) low),
+      rw (fl ∙ came_forward_lem s.labels (p * 8 + q) low, fp ∙ came_forward_lem s.payloads (p * 8 + q) low, sub-one (get_or s.counts (p * 8 + q) 0)),
     )

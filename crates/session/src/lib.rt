@@ -7,10 +7,10 @@ mod heads;
 ghost use Rattle.std.specs.Prelude.{◌≡◌, ◌<◌};
 ghost use Rattle.table.specs.Limits.{base};
 ghost use Rattle.state.specs.mirror.State.{seen};
-ghost use Rattle.session.specs.State.{listed, nothing, held, moved, pushed};
+ghost use Rattle.session.specs.State.{listed, nothing, held, moved, pushed, taken};
 ghost use Rattle.session.specs.Promises.{Freshens, Sends, Receives, Awaits};
 ghost use Rattle.session.specs.Results.{answered, delivered, told};
-ghost use Rattle.session.specs.mirror.Taken.{takes};
+ghost use Rattle.session.specs.mirror.Taken.{first_message};
 
 pub use answers::{Answer, Awaited, Message};
 use blocks::rows::Row;
@@ -85,7 +85,7 @@ impl Session {
 
     // The sender sends the label with the payload to the receiver, and moves to the head of that arm's continuation.
     pub fn send(
-        self,
+        mut self,
         tables: &[u16],
         roles: usize,
         sender: usize,
@@ -95,32 +95,36 @@ impl Session {
     ) -> Answer<()>
         ensures { Sends base tables.now roles sender receiver label payload self (answered base result) }
     {
-        match self
-            .view()
-            .judge_send(tables, roles, sender, receiver, label)
-        {
-            Err(refusal) => Answer {
-                result: Err(refusal),
-                state: self,
-            },
-            Ok(head) => Answer {
-                result: Ok(()),
-                state: self.push(sender, receiver, label, payload, head),
-            },
+        let result = self.put(tables, roles, sender, receiver, label, payload);
+        Answer {
+            result,
+            state: self,
         }
     }
 
-    // The message behind those that the queue holds, and its sender on that row.
-    fn push(
-        mut self,
+    // Refused, the state is as it was.
+    fn put(
+        &mut self,
+        tables: &[u16],
+        roles: usize,
         sender: usize,
         receiver: usize,
         label: usize,
         payload: u32,
-        head: u16,
-    ) -> Session
-        requires { (sender < base.roles) × (receiver < base.roles) × (label < base.labels) × (held base self sender receiver < base.depth) }
-        ensures { result ≡ moved (pushed base self sender receiver label payload) sender head }
+    ) -> Result<(), Refusal>
+        ensures { Sends base tables.now roles sender receiver label payload self.old (answered base (record { result = result; state = self.new })) }
+    {
+        let head = self
+            .view()
+            .judge_send(tables, roles, sender, receiver, label)?;
+        self.push(sender, receiver, label, payload, head);
+        Ok(())
+    }
+
+    // The message behind those that the queue holds, and its sender on that row.
+    fn push(&mut self, sender: usize, receiver: usize, label: usize, payload: u32, head: u16)
+        requires { (sender < base.roles) × (receiver < base.roles) × (label < base.labels) × (held base self.old sender receiver < base.depth) }
+        ensures { self.new ≡ moved (pushed base self.old sender receiver label payload) sender head }
     {
         let pair = sender * Session::ROLES + receiver;
         let count = self.counts[pair];
@@ -129,12 +133,11 @@ impl Session {
         slots::push(&mut self.payloads, pair, free, payload);
         self.counts[pair] = count + 1;
         self.heads[sender] = head;
-        self
     }
 
     // The receiver takes the oldest message from the sender, and moves to the head of that arm's continuation.
     pub fn receive(
-        self,
+        mut self,
         tables: &[u16],
         roles: usize,
         sender: usize,
@@ -142,43 +145,54 @@ impl Session {
     ) -> Answer<Message>
         ensures { Receives base tables.now roles sender receiver self (delivered base result) }
     {
-        match self.view().judge_receive(tables, roles, sender, receiver) {
-            Err(refusal) => Answer {
-                result: Err(refusal),
-                state: self,
-            },
-            Ok(head) => self.take(sender, receiver, head),
+        let result = self.get(tables, roles, sender, receiver);
+        Answer {
+            result,
+            state: self,
         }
     }
 
+    // Refused, the state is as it was.
+    fn get(
+        &mut self,
+        tables: &[u16],
+        roles: usize,
+        sender: usize,
+        receiver: usize,
+    ) -> Result<Message, Refusal>
+        ensures { Receives base tables.now roles sender receiver self.old (delivered base (record { result = result; state = self.new })) }
+    {
+        let head = self.view().judge_receive(tables, roles, sender, receiver)?;
+        Ok(self.take(sender, receiver, head))
+    }
+
     // The oldest message out of the queue, and its receiver on that row.
-    fn take(mut self, sender: usize, receiver: usize, head: u16) -> Answer<Message>
-        requires { (sender < base.roles) × (receiver < base.roles) × (0 < held base self sender receiver) }
-        ensures { result ≡ takes base self sender receiver head }
+    fn take(&mut self, sender: usize, receiver: usize, head: u16) -> Message
+        requires { (sender < base.roles) × (receiver < base.roles) × (0 < held base self.old sender receiver) }
+        ensures { (result ≡ first_message base self.old sender receiver) × (self.new ≡ moved (taken base self.old sender receiver) receiver head) }
     {
         let pair = sender * Session::ROLES + receiver;
         let label = slots::take(&mut self.labels, pair, 0);
         let payload = slots::take(&mut self.payloads, pair, 0);
         self.counts[pair] -= 1;
         self.heads[receiver] = head;
-        Answer {
-            result: Ok(Message { label, payload }),
-            state: self,
-        }
+        Message { label, payload }
     }
 
     // The roles that have a call which would be accepted.
     pub fn awaited(self, tables: &[u16], roles: usize) -> Answer<Awaited>
         ensures { Awaits base tables.now roles self (told base result) }
     {
-        // kept: with `map` the proof did not close, since what the closure answers is not read back from its contract.
-        let result = match self.view().awaited_roles(tables, roles) {
-            Err(refusal) => Err(refusal),
-            Ok(set) => Ok(Awaited { set }),
-        };
         Answer {
-            result,
+            result: self.acting(tables, roles),
             state: self,
         }
+    }
+
+    fn acting(&self, tables: &[u16], roles: usize) -> Result<Awaited, Refusal>
+        ensures { Awaits base tables.now roles self.now (told base (record { result = result; state = self.now })) }
+    {
+        let set = self.view().awaited_roles(tables, roles)?;
+        Ok(Awaited { set })
     }
 }
