@@ -1,3 +1,4 @@
 pub mod Reading
 pub mod Recording
 pub mod Telling
+pub mod Promises

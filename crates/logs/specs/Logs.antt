@@ -9,9 +9,8 @@ use Rattle.logs.specs.declared.Log.{Log}
 use Rattle.logs.specs.declared.State.{State}
 use Rattle.logs.specs.declared.State.TheVariants.{Fresh, Faulty, Begun}
 
--- the records are the first ones of an array
 abbrev pub records : Log → List Record
-records log = take log.records.count log.records.items
+records log = log.records
 
 abbrev pub kept_by : State → List Record → Kept
 kept_by Fresh rs = fresh

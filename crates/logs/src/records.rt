@@ -1,8 +1,6 @@
 // The records of a log, as far as there is room for them.
-ghost use Rattle.std.specs.Prelude.{◌≤◌};
-ghost use Rattle.logs.specs.declared.records.TheConstants.{ROOM};
-
 use hours::{Figures, Record};
+use std::marker::Model;
 
 // One record more than a log may have: a log that is too long is kept so far.
 pub const ROOM: usize = Figures::MOST + 1;
@@ -17,15 +15,26 @@ const BLANK: Record = Record {
 pub struct Records {
     items: [Record; ROOM],
     count: usize,
-    ghost within: { count ≤ ROOM },
+}
+
+impl Model for Records {
+    ghost use Rattle.std.specs.Prelude.{◌≤◌, List, take};
+    ghost use Rattle.hours.specs.declared.Record.{Record};
+    ghost use Rattle.logs.specs.declared.records.TheConstants.{ROOM};
+
+    ghost Value = { List Record };
+
+    ghost view = { λ records. take records.count records.items };
+
+    ghost invariant = { λ records. records.count ≤ ROOM };
 }
 
 impl Records {
-    ghost use Rattle.std.specs.Prelude.{◌≡◌, [], take};
+    ghost use Rattle.std.specs.Prelude.{◌≡◌, []};
     ghost use Rattle.logs.specs.Lines.{record_more};
 
     pub fn new() -> Records
-        ensures { take result.count result.items ≡ [] }
+        ensures { result ≡ [] }
     {
         Records {
             items: [BLANK; ROOM],
@@ -34,14 +43,14 @@ impl Records {
     }
 
     pub fn clear(&mut self)
-        ensures { take self.new.count self.new.items ≡ [] }
+        ensures { self.new ≡ [] }
     {
         self.count = 0;
     }
 
     // One record more, where there is room for it.
     pub fn push(&mut self, record: Record)
-        ensures { take self.new.count self.new.items ≡ record_more (take self.old.count self.old.items) «record» }
+        ensures { self.new ≡ record_more self.old «record» }
     {
         if self.count < ROOM {
             self.items[self.count] = record;
@@ -50,7 +59,7 @@ impl Records {
     }
 
     pub fn as_slice(&self) -> &[Record]
-        ensures { result.now ≡ take self.now.count self.now.items }
+        ensures { result.now ≡ self.now }
     {
         &self.items[..self.count]
     }
