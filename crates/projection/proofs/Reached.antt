@@ -113,15 +113,6 @@ pub next_some : (at : ℕ → Reach) (n : ℕ) → 0 < n → next_of at n ≡ at
 next_some at zero h = absurd (omega arith)
 next_some at (suc n) h = refl
 
--- a row of another kind
-pub other_row : (at : ℕ → Reach) (k : ℕ) → (k ≡ 1 → ⊥) → (k ≡ 2 → ⊥) → (k ≡ 3 → ⊥) → (k ≡ 4 → ⊥) → (a b c : ℕ) → reach_of at (row_of k a b c) ≡ nothing
-other_row at zero p q r s a b c = refl
-other_row at (suc zero) p q r s a b c = absurd (p refl)
-other_row at (suc (suc zero)) p q r s a b c = absurd (q refl)
-other_row at (suc (suc (suc zero))) p q r s a b c = absurd (r refl)
-other_row at (suc (suc (suc (suc zero)))) p q r s a b c = absurd (s refl)
-other_row at (suc (suc (suc (suc (suc k))))) p q r s a b c = refl
-
 -- row i of a table that obeys the rules, where what the higher rows reach is known
 module _ (t : List ℕ) (n : ℕ) (o : Obeys base t n) (at : ℕ → Reach) (i : ℕ)
     (tree : (j : ℕ) (G : Global ℕ) → i < j → Grows t j G → TreeReach G (at j))

@@ -248,17 +248,6 @@ own_step {v} {i} {left} {less} {n} {work₀ = work₀} {work₁} {work₂} {work
         own_arm (subst (λ (w : ℕ). Pushed work₀ at w work₁ e) as_word push) project own len₁ len₂ spare₁ o (rw (as_then ∙ d) g) (rw en x) s
         (rw el at f) (plain_arm q y m ps) k sp
 
--- no arm there
-pub own_nowhere : {v : Projection} {i left : ℕ} {work work' : List ℕ} (spare : List ℕ) {at : ℕ} {read : Maybe Arm} {res : Maybe ℕ} → (i ≡ 0 → ⊥)
-    → ArmRead v.table.now i read → read ≡ None → Owns v left i work at spare work' res
-own_nowhere {v} {i} {left} {work} {work'} spare {at} {read} {res} on is en = record { gives = go i on is }
-  where
-    go : (i : ℕ) → (i ≡ 0 → ⊥) → ArmRead v.table.now i read → (cs : Arms ℕ) (s : List ℕ) → Known v → Listed v.table.now v.order.now i cs
-        → rows_in_arms cs ≤ left → Plain cs → Stack work at s → Space (suc (rows_in_arms cs * 2)) at work spare
-        → Outcome codes_arms s work' res (part_arms v.role cs)
-    go i z read cs s o listed_none f p k sp = absurd (z refl)
-    go i z read cs s o (listed_arm h j a b d g x) f p k sp = absurd (none_some en (arm_there read a).1)
-
 -- ---- an exchange of others
 
 -- the first arm of a chain, and the arms behind it
@@ -307,16 +296,6 @@ others_step {v} {left} {work = work} {work'' = work''} {spare} {at = at} {next} 
       subst (λ (X : Global ℕ). rows_in X ≤ suc left → Good X → Coded X → Stack work at s → Space (rows_in X * 2) at work spare → Outcome codes s work'' b (part v.role X))
       (ap (λ (z : Arms ℕ). exchange p q z) (sym e) ∙ sym is)
       (first_step {p = p} {q = q} {l = x} ex len len' one rest o (rw as_then grows) (rw as_next behind) s) f g m;
-}
-
--- no arm there
-pub others_nowhere : {v : Projection} {left : ℕ} {work work' : List ℕ} (spare : List ℕ) {at next : ℕ} {read : Maybe Arm} {res : Maybe ℕ}
-    → ArmRead v.table.now next read → read ≡ None → Chooses v (Others next) left work at spare work' res
-others_nowhere spare read en = record {
-  gives = λ G s o by f g m k sp.
-      let (p, q, cs, is, chain, ex) = by in
-      let (x, H, ds, e, kind, grows, behind) = first_arm chain in
-      absurd (none_some en (arm_there read kind).1);
 }
 
 -- ---- the parts of the arms of others, merged

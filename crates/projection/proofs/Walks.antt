@@ -96,14 +96,6 @@ entered {v} {plan} {work} {work'} {at} e few gives = record {
       (same_Some e d is) gives;
 }
 
--- a plan that leads on to no single row
-pub enter_none : {v : Projection} {plan : Plan} {work : List ℕ} {at : ℕ} → Enters v plan work at work None
-enter_none = record {
-  stays = λ n. refl;
-  few = λ e is. absurd (none-some e is);
-  gives = λ e is. absurd (none-some e is);
-}
-
 pub enter_loop : {v : Projection} {w next : ℕ} {work work' : List ℕ} {at e : ℕ} → Pushed work at w work' e
     → Enters v (Body w next) work at work' (Some (record { row = next; at = e; marks = 0 }))
 enter_loop {v} {work = work} {work'} {at} {e} push =
@@ -331,11 +323,3 @@ project_step {v} {work₁ = work₁} {spare = spare} way {one} walk is choose ma
       (space_within sp len₁ refl (omega (arith, inside'.fits, stack'.height, k.height)) (omega (arith, inside'.fits))));
 }
 
--- no link is left
-pub project_nowhere : {v : Projection} {left i : ℕ} {work work₁ work₂ spare : List ℕ} {at : ℕ} {found : Maybe Way} {res : Maybe ℕ}
-    → Walks v left i work at work₁ found → found ≡ None → Projects v left i work at spare work₂ res
-project_nowhere walk is = record {
-  gives = λ G s o h f g m k sp.
-      let (e, B, ws, found, by, stack, inside) = walk.gives G s o h f g m k sp.fits in
-      absurd (none_some is found);
-}

@@ -346,7 +346,7 @@ impl<'a> Projection<'a> {
 
 // Puts the parts of the roles in a table that the check accepts one after the other, up to the lowest role that has none. The merges are lent
 // a word for each that two parts of this table can have.
-fn put_all(table: &[u16], roles: usize, work: &mut [u16]) -> Result<(), Refusal>
+fn project_all(table: &[u16], roles: usize, work: &mut [u16]) -> Result<(), Refusal>
     requires { (check_of base table.now roles ≡ accepted) × (roles * (rows_of table.now * 2) ≤ length work.old) }
     ensures { Parted table.now roles work.new result }
 {
@@ -379,5 +379,5 @@ pub fn parts(table: &[u16], roles: usize, work: &mut [u16; PARTS]) -> Result<(),
     ensures complete { OnOk result (Complete table.now roles work.new) }
 {
     rules::check(table, roles)?;
-    put_all(table, roles, work)
+    project_all(table, roles, work)
 }

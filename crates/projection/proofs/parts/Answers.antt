@@ -12,12 +12,12 @@ returns-in_err-check-clause-verdict c =
     let p = err_from_is_err_and c.from_residual.result c.from_residual.ensures.1 in
     rw (p.1, p.2) (refused_early _ _ _ (sym (ap verdict_of c.in_err-check.was) ∙ c.check.ensures))
 
-pub put_all-requires : goal.put_all-requires
-put_all-requires c =
+pub project_all-requires : goal.project_all-requires
+project_all-requires c =
     let e = sym (sym (ap verdict_of c.in_ok-check.was) ∙ c.check.ensures) in (e, omega (arith, all_words _ _ e))
 
 pub returns-clause-verdict : goal.returns-clause-verdict
-returns-clause-verdict c = parted_verdict _ _ (sym (sym (ap verdict_of c.in_ok-check.was) ∙ c.check.ensures)) c.put_all.ensures
+returns-clause-verdict c = parted_verdict _ _ (sym (sym (ap verdict_of c.in_ok-check.was) ∙ c.check.ensures)) c.project_all.ensures
 
 pub returns-clause-complete : goal.returns-clause-complete
-returns-clause-complete c = parted_complete _ _ (sym (sym (ap verdict_of c.in_ok-check.was) ∙ c.check.ensures)) c.put_all.ensures
+returns-clause-complete c = parted_complete _ _ (sym (sym (ap verdict_of c.in_ok-check.was) ∙ c.check.ensures)) c.project_all.ensures

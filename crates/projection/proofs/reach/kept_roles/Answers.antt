@@ -13,8 +13,3 @@ loop-row-preserved c =
     passing_turn c.of-reach.result c.loop-row.invariant c.loop-row-test.true
     (c.of-reach.ensures ∙ ap (reach_of (placed c.loop-row.found)) c.read.ensures) c.stay.ensures refl refl
 
-pub returns : goal.returns
-returns c =
-    λ roles e.
-    let z : c.loop-row.row ≡ 0 = omega arith in
-    filling_end _ _ _ (rw z at (c.loop-row.invariant.known roles e))

@@ -1,4 +1,4 @@
--- `projection::put_all` meets its contract: each turn puts one part behind those before it. Assumes nothing.
+-- `projection::project_all` meets its contract: each turn puts one part behind those before it. Assumes nothing.
 use Prim.Native.Nat.{◌+◌, ◌*◌, ◌≤◌, ◌/◌}
 use mathlib.Core.Bool.{not}
 use mathlib.Core.Path.{◌≡◌, refl, sym, ◌∙◌, ap}
@@ -13,7 +13,7 @@ use Rattle.table.specs.Limits.{base}
 use Rattle.table.proofs.Accepted.{obeys}
 use Rattle.table.proofs.Sizes.{measured}
 use Rattle.projection.proofs.Tables.{upto_none, lacking, upto_more, upto_all, ok_or_none, ok_or_some}
-use Rattle.projection.proofs.put_all.Goals as goal
+use Rattle.projection.proofs.project_all.Goals as goal
 
 pub loop-role-init : goal.loop-role-init
 loop-role-init c = (refl, refl, upto_none _ _)
