@@ -12,7 +12,7 @@ use Rattle.words.specs.Below.{one, set_of}
 use Rattle.words.specs.Rows.{word, rows_of}
 use Rattle.table.specs.Above.{namer, over, above, loops}
 use Rattle.table.specs.Limits.{base}
-use Rattle.table.specs.Rows.{row_of, row, is_loop}
+use Rattle.table.specs.Rows.{row, is_loop}
 use Rattle.table.specs.Tree.{Global, end, exchange, loop, back, Arms, nil, arm}
 use Rattle.table.proofs.Accepted.{Obeys}
 use Rattle.table.proofs.Links.{exchange_link, loop_link, arm_link}

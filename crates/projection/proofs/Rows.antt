@@ -1,6 +1,6 @@
 -- What a row asks for a role, from the words that the code read. Assumes nothing.
 use Prim.Native.Nat.{ℕ, zero, suc, ◌+◌, ◌*◌, ◌<◌, min}
-use mathlib.Core.Bool.{Bool, true, false, ◌||◌}
+use mathlib.Core.Bool.{Bool, false, ◌||◌}
 use mathlib.Core.List.{List}
 use mathlib.Core.Logic.{◌≢◌}
 use mathlib.Core.Path.{◌≡◌, refl, sym, ◌∙◌, ap}
@@ -21,7 +21,7 @@ use Rattle.parts.specs.mirror.Grows.{Grows, grows_end, grows_exchange, grows_loo
 use Rattle.projection.specs.mirror.Orders.{Listed}
 use Rattle.projection.specs.mirror.Projects.{SMALL, Coded, s_exchange, s_back, PlannedBy, Known, Planned}
 use Rattle.projection.specs.declared.Plan.{Plan}
-use Rattle.projection.specs.declared.Plan.TheVariants.{Leaf, Body, Action, Others}
+use Rattle.projection.specs.declared.Plan.TheVariants.{Leaf, Action, Others}
 use Rattle.projection.specs.declared.Projection.{Projection}
 
 -- ---- one kind of row
@@ -29,9 +29,6 @@ use Rattle.projection.specs.declared.Projection.{Projection}
 module _ (v : Projection) where
   -- a Loop; b: whether the code found that the role stays in it
   module _ (B : Global ℕ) {b : Bool} (is : b ≡ (takes_part v.role B || leaves 1 B)) where
-    pub loop_plan : b ≡ true → {w i : ℕ} → w ≡ 3 → Grows v.table.now i B → PlannedBy (Body w i) v (loop B)
-    loop_plan e ew g = (B, refl, g, sym is ∙ e, ew)
-
     pub idle_plan : b ≡ false → {w : ℕ} → w ≡ 0 → PlannedBy (Leaf w) v (loop B)
     unfolding part codes
     idle_plan e ew = (p_end, rw (← is, e), rw ew refl)

@@ -5,7 +5,7 @@ use mathlib.Core.List.{List, [], ◌∷◌, ◌++◌, append_assoc, append-nil}
 use mathlib.Core.Option.{Option, none, some, bind}
 use mathlib.Core.Path.{◌≡◌, refl, sym, ◌∙◌, ap, subst}
 use native.Mathlib.Omega.{arith}
-use lib.ListN.{length, get_or, length-append, length-replicate, replicate-append-replicate}
+use lib.ListN.{length, get_or, length-append, replicate-append-replicate}
 use Rattle.words.specs.Rows.{word}
 use Rattle.table.specs.Tree.{Global, exchange, loop, Arms, nil, arm, rows_in, rows_in_arms}
 use Rattle.table.specs.mirror.Kept.{Good, g_exchange, g_loop, g_arm}
@@ -271,24 +271,6 @@ walks_nowhere comes e = record {
 
 -- ---- the marks behind a part
 
-pub closed_none : {work : List ℕ} {at n : ℕ} → n ≡ 0 → Closed n work at work at
-closed_none e = record { gives = λ s k room. rw e (restack (sym (append-nil s)) k) }
-
--- one more
-pub closed_more : {n m : ℕ} {work₀ work work' : List ℕ} {at top e : ℕ} → m ≡ suc n → length work ≡ length work₀ → Closed n work₀ at work top
-    → Pushed work top (code 1 0) work' e → Closed m work₀ at work' e
-closed_more {n} {m} {work' = work'} {at = at} {top} {e} em len closed push = record {
-  gives = λ s k room.
-      let k₁ = closed.gives s k (omega arith) in
-      let height : top ≡ at + n = k₁.height ∙ length-append s (marks n) ∙ rw (length-replicate n (code 1 0), k.height) refl in
-      let next : n + 1 ≡ m = omega arith in
-      let longer : marks n ++ code 1 0 ∷ [] ≡ marks m = replicate-append-replicate n 1 (code 1 0) ∙ ap marks next in
-      restack (append_assoc s (marks n) (code 1 0 ∷ []) ∙ ap (λ (x : List ℕ). s ++ x) longer) (push.gives (s ++ marks n) k₁ (omega arith));
-}
-
-pub closed_all : {n m : ℕ} {work work' : List ℕ} {at e : ℕ} → n ≡ m → Closed n work at work' e → Closed m work at work' e
-closed_all {work = work} {work'} {at} {e} h closed = subst (λ (x : ℕ). Closed x work at work' e) h closed
-
 -- the marks behind what a call put, or nothing where it put nothing
 pub data Marked (n : ℕ) (work work' : List ℕ) (one res : Maybe ℕ) : Type 0 where
   unmarked : one ≡ None → res ≡ None → Marked n work work' one res
@@ -322,4 +304,3 @@ project_step {v} {work₁ = work₁} {spare = spare} way {one} walk is choose ma
       (choose.gives B (s ++ ws) o by' inside'.rows inside'.good inside'.small stack'
       (space_within sp len₁ refl (omega (arith, inside'.fits, stack'.height, k.height)) (omega (arith, inside'.fits))));
 }
-
