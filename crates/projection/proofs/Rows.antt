@@ -95,49 +95,16 @@ words_are (suc (suc (suc zero))) a b c x e l = (sym (ap number e), sym (ap first
 words_are (suc (suc (suc (suc zero)))) a b c x e l = (sym (ap number e), sym (ap first e), sym (ap second e), sym (ap third e))
 words_are (suc (suc (suc (suc (suc k))))) a b c x e l = absurd (omega (arith, ap number e))
 
--- a row of another kind
-not_kind : (t : List ℕ) (i n : ℕ) (x : Row) → x ≡ row t i → n < 5 → number x ≢ n → word t i 0 ≡ n → ⊥
-not_kind t i n x e l h k = h (ap number e ∙ rw k (small n l (word t i 1) (word t i 2) (word t i 3)))
-  where
-    small : (n : ℕ) → n < 5 → (a b c : ℕ) → number (row_of n a b c) ≡ n
-    small zero l a b c = refl
-    small (suc zero) l a b c = refl
-    small (suc (suc zero)) l a b c = refl
-    small (suc (suc (suc zero))) l a b c = refl
-    small (suc (suc (suc (suc zero)))) l a b c = refl
-    small (suc (suc (suc (suc (suc n))))) l a b c = absurd (omega arith)
-
+-- a row that was read as no Exchange
 pub not_exchange : (t : List ℕ) (i : ℕ) (x : declared.Row) → said x ≡ row t i → ((s r f : ℕ) → x ≡ read.Exchange s r f → ⊥) → word t i 0 ≡ 1 → ⊥
-not_exchange t i x e never = not_kind t i 1 (said x) e (omega arith) (go x never)
+not_exchange t i x e never k = go x never (ap number e ∙ rw k refl)
   where
-    go : (x : declared.Row) → ((s r f : ℕ) → x ≡ read.Exchange s r f → ⊥) → number (said x) ≢ 1
+    go : (x : declared.Row) → ((s r f : ℕ) → x ≡ read.Exchange s r f → ⊥) → number (said x) ≡ 1 → ⊥
     go (read.End a b c) never h = omega arith
     go (read.Exchange a b c) never h = never a b c refl
     go (read.Arm a b c) never h = omega arith
     go (read.Loop a b c) never h = omega arith
     go (read.Back a b c) never h = omega arith
-    go read.Other never h = omega arith
-
-not_loop : (t : List ℕ) (i : ℕ) (x : declared.Row) → said x ≡ row t i → ((b c d : ℕ) → x ≡ read.Loop b c d → ⊥) → word t i 0 ≡ 3 → ⊥
-not_loop t i x e never = not_kind t i 3 (said x) e (omega arith) (go x never)
-  where
-    go : (x : declared.Row) → ((s r f : ℕ) → x ≡ read.Loop s r f → ⊥) → number (said x) ≢ 3
-    go (read.End a b c) never h = omega arith
-    go (read.Exchange a b c) never h = omega arith
-    go (read.Arm a b c) never h = omega arith
-    go (read.Loop a b c) never h = never a b c refl
-    go (read.Back a b c) never h = omega arith
-    go read.Other never h = omega arith
-
-not_back : (t : List ℕ) (i : ℕ) (x : declared.Row) → said x ≡ row t i → ((d b c : ℕ) → x ≡ read.Back d b c → ⊥) → word t i 0 ≡ 4 → ⊥
-not_back t i x e never = not_kind t i 4 (said x) e (omega arith) (go x never)
-  where
-    go : (x : declared.Row) → ((s r f : ℕ) → x ≡ read.Back s r f → ⊥) → number (said x) ≢ 4
-    go (read.End a b c) never h = omega arith
-    go (read.Exchange a b c) never h = omega arith
-    go (read.Arm a b c) never h = omega arith
-    go (read.Loop a b c) never h = omega arith
-    go (read.Back a b c) never h = never a b c refl
     go read.Other never h = omega arith
 
 -- a small field as a word again
@@ -182,17 +149,23 @@ module _ {v : Projection} {i k : ℕ} (ek : k ≡ word v.table.now i 0) where
       go G o (grows_loop l z a f) m = absurd (omega arith)
       go G o (grows_back {d = x} l z a) m = let f : d ≡ x = ed ∙ a in (p_back x, refl, rw (h (rw f (depth m)), f))
 
-  pub at_end : (k ≡ 1 → ⊥) → (k ≡ 3 → ⊥) → (k ≡ 4 → ⊥) → {w : ℕ} → w ≡ 0 → Planned v i (Leaf w)
-  unfolding part codes
-  at_end n1 n3 n4 {w} ew = record { says = go }
-    where
-      go : (G : Global ℕ) → Known v → Grows v.table.now i G → Coded G → PlannedBy (Leaf w) v G
-      go G o (grows_end l z) m = (p_end, refl, rw ew refl)
-      go G o (grows_exchange l z a b c f) m = absurd (n1 (ek ∙ z))
-      go G o (grows_loop l z a f) m = absurd (n3 (ek ∙ z))
-      go G o (grows_back l z a) m = absurd (n4 (ek ∙ z))
-
+-- a row that was read as none of these
 pub at_other : {v : Projection} {i : ℕ} (x : declared.Row) → said x ≡ row v.table.now i → ((s r f : ℕ) → x ≡ read.Exchange s r f → ⊥)
     → ((b c d : ℕ) → x ≡ read.Loop b c d → ⊥) → ((d b c : ℕ) → x ≡ read.Back d b c → ⊥) → {w : ℕ} → w ≡ 0 → Planned v i (Leaf w)
-at_other {v} {i} x e n1 n3 n4 ew =
-    at_end refl (not_exchange v.table.now i x e n1) (not_loop v.table.now i x e n3) (not_back v.table.now i x e n4) ew
+unfolding part codes
+at_other {v} {i} x e n1 n3 n4 {w} ew = record { says = go (others x n1 n3 n4) }
+  where
+    others : (x : declared.Row) → ((s r f : ℕ) → x ≡ read.Exchange s r f → ⊥) → ((b c d : ℕ) → x ≡ read.Loop b c d → ⊥)
+        → ((d b c : ℕ) → x ≡ read.Back d b c → ⊥) → (number (said x) ≢ 1) × (number (said x) ≢ 3) × (number (said x) ≢ 4)
+    others (read.End a b c) n1 n3 n4 = (λ h. omega arith, λ h. omega arith, λ h. omega arith)
+    others (read.Exchange a b c) n1 n3 n4 = absurd (n1 a b c refl)
+    others (read.Arm a b c) n1 n3 n4 = (λ h. omega arith, λ h. omega arith, λ h. omega arith)
+    others (read.Loop a b c) n1 n3 n4 = absurd (n3 a b c refl)
+    others (read.Back a b c) n1 n3 n4 = absurd (n4 a b c refl)
+    others read.Other n1 n3 n4 = (λ h. omega arith, λ h. omega arith, λ h. omega arith)
+
+    go : (number (said x) ≢ 1) × (number (said x) ≢ 3) × (number (said x) ≢ 4) → (G : Global ℕ) → Known v → Grows v.table.now i G → Coded G → PlannedBy (Leaf w) v G
+    go h G o (grows_end l z) m = (p_end, refl, rw ew refl)
+    go h G o (grows_exchange l z a b c f) m = absurd (h.0 (ap number e ∙ rw z refl))
+    go h G o (grows_loop l z a f) m = absurd (h.1 (ap number e ∙ rw z refl))
+    go h G o (grows_back l z a) m = absurd (h.2 (ap number e ∙ rw z refl))

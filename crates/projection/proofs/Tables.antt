@@ -27,7 +27,9 @@ use Rattle.parts.proofs.Grown.{tree_grows}
 use Rattle.parts.proofs.Rising.{holds_some}
 use Rattle.parts.proofs.Laws.{part_size}
 use Rattle.parts.proofs.Sizes.{words_twice}
-use Rattle.projection.specs.mirror.Projects.{SMALL, Coded, s_end, s_exchange, s_loop, s_back, CodedArms, s_nil, s_arm, Stack, Outcome, fails, puts, Projects, words_of, parts_words, Prepared}
+use Rattle.projection.specs.mirror.Projects.{SMALL, Coded, s_end, s_exchange, s_loop, s_back, CodedArms, s_nil, s_arm, Stack, Outcome, fails, puts, Projects, words_of, parts_words}
+use Rattle.projection.specs.mirror.Keeps.{Keeps}
+use Rattle.projection.specs.mirror.Orders.{Orders}
 use Rattle.projection.specs.declared.Projection.{Projection}
 use Rattle.std.specs.Prelude.{Some, None, Result, Ok, Err}
 use Rattle.std.specs.Option.{ok_or}
@@ -89,50 +91,45 @@ pub upto_none : (t work : List ℕ) → Upto t 0 work 0
 unfolding parts_words
 upto_none t work = record { stack = record { rest = work; is = refl; height = refl }; low = omega arith; each = below_none _ }
 
-module _ (v : Projection) {roles at words : ℕ} {work₀ work spare work' : List ℕ} {res : Maybe ℕ} (l : v.role < roles)
-    (p : Prepared v.table.now v.kept.now v.order.now roles work₀ words) (lw : length work ≡ length work₀) (ls : length spare ≡ words)
+module _ (v : Projection) {roles at : ℕ} {work spare work' : List ℕ} {res : Maybe ℕ} (l : v.role < roles)
+    (checked : check_of base v.table.now roles ≡ accepted) (keeps : Keeps v.table.now v.kept.now) (orders : Orders v.table.now v.order.now)
+    (fits : roles * (rows_of v.table.now * 2) ≤ length work) (ls : rows_of v.table.now * 2 < length spare)
     (u : Upto v.table.now v.role work at) (h : Projects v (rows_of v.table.now) 0 work at spare work' res) where
-  abbrev t : List ℕ
-  t = v.table.now
-
-  abbrev k : ℕ
-  k = v.role
-
   -- the parts before this one and this one have room
-  room : at + rows_of t * 2 ≤ length work
-  room = omega (arith, u.low, p.fits, suc-mul k (rows_of t * 2), mul-le-mul_right (rows_of t * 2) l)
+  room : at + rows_of v.table.now * 2 ≤ length work
+  room = omega (arith, u.low, fits, suc-mul v.role (rows_of v.table.now * 2), mul-le-mul_right (rows_of v.table.now * 2) l)
 
-  found : Outcome codes (parts_words t k) work' res (part_of t k)
+  found : Outcome codes (parts_words v.table.now v.role) work' res (part_of v.table.now v.role)
   unfolding part_of
   found =
-      let s = sound t roles p.checked in
+      let s = sound v.table.now roles checked in
       let m = s.most in
-      h.gives (tree_of t) (parts_words t k) (record { role = omega arith; keeps = p.keeps; orders = p.orders }) s.grows s.fits s.good s.small u.stack
-      (record { fits = omega (arith, room, s.fits); spares = omega (arith, p.spares, s.fits); few = omega (arith, s.fits, s.few) })
+      h.gives (tree_of v.table.now) (parts_words v.table.now v.role) (record { role = omega arith; keeps = keeps; orders = orders }) s.grows s.fits s.good s.small u.stack
+      (record { fits = omega (arith, room, s.fits); spares = omega (arith, ls, s.fits); few = omega (arith, s.fits, s.few) })
 
-  pub lacking : res ≡ None → present (part_of t k) ≡ false
-  lacking e = go (part_of t k) found
+  pub lacking : res ≡ None → present (part_of v.table.now v.role) ≡ false
+  lacking e = go (part_of v.table.now v.role) found
     where
-      go : (o : Option Part) → Outcome codes (parts_words t k) work' res o → present o ≡ false
+      go : (o : Option Part) → Outcome codes (parts_words v.table.now v.role) work' res o → present o ≡ false
       go none (fails f) = refl
       go (some P) (puts f s) = absurd (none_some e f)
 
-  rows : (P : Part) → part_of t k ≡ some P → size P ≤ rows_of t
+  rows : (P : Part) → part_of v.table.now v.role ≡ some P → size P ≤ rows_of v.table.now
   unfolding part_of
-  rows P q = omega (arith, holds_some (part_size {A = ℕ} k (tree_of t)) q, (sound t roles p.checked).fits)
+  rows P q = omega (arith, holds_some (part_size {A = ℕ} v.role (tree_of v.table.now)) q, (sound v.table.now roles checked).fits)
 
-  pub upto_more : {d : ℕ} → res ≡ Some d → Upto t (k + 1) work' d
+  pub upto_more : {d : ℕ} → res ≡ Some d → Upto v.table.now (v.role + 1) work' d
   unfolding parts_words
-  upto_more {d} e = go (part_of t k) refl found
+  upto_more {d} e = go (part_of v.table.now v.role) refl found
     where
-      go : (o : Option Part) → part_of t k ≡ o → Outcome codes (parts_words t k) work' res o → Upto t (k + 1) work' d
+      go : (o : Option Part) → part_of v.table.now v.role ≡ o → Outcome codes (parts_words v.table.now v.role) work' res o → Upto v.table.now (v.role + 1) work' d
       go none q (fails f) = absurd (none_some f e)
       go (some P) q (puts f s₀) =
-          let s = subst (λ (x : ℕ). Stack work' x (parts_words t k ++ codes P)) (some_same f e) s₀ in
+          let s = subst (λ (x : ℕ). Stack work' x (parts_words v.table.now v.role ++ codes P)) (some_same f e) s₀ in
           record {
-            stack = rw (add-one k) (restack (ap (λ (x : List ℕ). parts_words t k ++ x) (sym (ap words_of q))) s);
-            low = rw (add-one k)
-                (omega (arith, u.low, u.stack.height, s.height, length-append (parts_words t k) (codes P), words_twice P, suc-mul k (rows_of t * 2), rows P q));
+            stack = rw (add-one v.role) (restack (ap (λ (x : List ℕ). parts_words v.table.now v.role ++ x) (sym (ap words_of q))) s);
+            low = rw (add-one v.role)
+                (omega (arith, u.low, u.stack.height, s.height, length-append (parts_words v.table.now v.role) (codes P), words_twice P, suc-mul v.role (rows_of v.table.now * 2), rows P q));
             each = below_more _ _ u.each (ap present q);
           }
 

@@ -15,7 +15,7 @@ ghost use Rattle.table.specs.Tree.{Global, loop, Arms, exchange};
 ghost use Rattle.parts.specs.mirror.Grows.{Grows, Chain, ordered};
 ghost use Rattle.parts.specs.mirror.Kinds.{argument_of, word_of};
 ghost use Rattle.projection.specs.mirror.Orders.{Listed};
-ghost use Rattle.projection.specs.mirror.Projects.{SMALL, Coded, Pushed, PlannedBy, Known, Planned, Enters, Walks, Closed, ArmRead, Chooses, Projects, Owns, Folds, Prepared, Parted, parts_of, Complete};
+ghost use Rattle.projection.specs.mirror.Projects.{SMALL, Coded, Pushed, PlannedBy, Known, Planned, Enters, Walks, Closed, ArmRead, Chooses, Projects, Owns, Folds, Parted, parts_of, Complete};
 
 use parts::Code;
 use table::{Refusal, Row, Rule, Table};

@@ -32,11 +32,12 @@ pub returns-in_err-at : goal.returns-in_err-at
 returns-in_err-at c =
     let was = c.loop-role.invariant in
     let few : rows_of c.args.table.now ≤ base.rows = (measured base _ _ (obeys base c.args.table.now c.args.roles c.requires.0).sizes).few in
+    let lent = length-take-le (length c.args.table.now / 4 * 2 + 1) c.loop-role.spare (omega (arith, few, was.1)) in
     let p = err_from_is_err_and c.from_residual.result c.from_residual.ensures.1 in
     let (none, refusal) = ok_or_none c.ok_or.ensures.value c.in_err-at.was in
     let low = lowest_at _ _ _ c.loop-role-test.true (λ k l. ap not (was.2.each k l))
-    (ap not (lacking _ c.loop-role-test.true (record { checked = c.requires.0; keeps = c.kept_roles-kept.ensures _ c.requires.0; orders = c.arms_in_order-order.ensures _ c.requires.0; fits = c.requires.1; spares = omega arith })
-    was.0 (length-take-le (length c.args.table.now / 4 * 2 + 1) c.loop-role.spare (omega (arith, few, was.1))) was.2 c.project-part.ensures none)) in
+    (ap not (lacking _ c.loop-role-test.true c.requires.0 (c.kept_roles-kept.ensures _ c.requires.0) (c.arms_in_order-order.ensures _ c.requires.0) (omega (arith, c.requires.1, was.0))
+    (omega (arith, lent)) was.2 c.project-part.ensures none)) in
     rw (p.1, p.2, refusal)
     (record { lacks = rw (low, lt-ltb _ _ c.loop-role-test.true); stands = tt })
 
@@ -48,8 +49,8 @@ loop-role-preserved c =
     let lent = length-take-le words c.loop-role.spare (omega (arith, few, was.1)) in (
       c.project-part.auto.work ∙ was.0,
       omega (arith, length-append c.project-part.new.spare (drop words c.loop-role.spare), length-drop words c.loop-role.spare, c.project-part.auto.spare, lent, was.1, few),
-      upto_more _ c.loop-role-test.true (record { checked = c.requires.0; keeps = c.kept_roles-kept.ensures _ c.requires.0; orders = c.arms_in_order-order.ensures _ c.requires.0; fits = c.requires.1; spares = omega arith })
-          was.0 lent was.2 c.project-part.ensures (ok_or_some _ c.ok_or.ensures.value c.in_ok-at.was),
+      upto_more _ c.loop-role-test.true c.requires.0 (c.kept_roles-kept.ensures _ c.requires.0) (c.arms_in_order-order.ensures _ c.requires.0) (omega (arith, c.requires.1, was.0))
+      (omega (arith, lent)) was.2 c.project-part.ensures (ok_or_some _ c.ok_or.ensures.value c.in_ok-at.was),
     )
 
 pub returns : goal.returns

@@ -186,14 +186,6 @@ unfolding codes part_of
 parts_words t zero = []
 parts_words t (suc n) = parts_words t n ++ words_of (part_of t n)
 
--- what the code needs to put the parts of all roles on the stack
-pub record Prepared (t kept order : List ℕ) (roles : ℕ) (work : List ℕ) (words : ℕ) : Type 0 where
-  pub checked : check_of base t roles ≡ accepted
-  pub keeps : Keeps t kept
-  pub orders : Orders t order
-  pub fits : roles * (rows_of t * 2) ≤ length work
-  pub spares : rows_of t * 2 < words
-
 -- refused at the lowest role that has no part; and, where every role has one, the words of all parts one after the other
 pub record Parted (t : List ℕ) (roles : ℕ) (work' : List ℕ) (res : Result ⊤ Refusal) : Type 0 where
   pub lacks : verdict_of res ≡ refused_at NOPART (λ k. not (present (part_of t k))) roles accepted
