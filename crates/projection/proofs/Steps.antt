@@ -69,6 +69,10 @@ pub data Goes (P : ℕ → Type 0) (a b : Maybe ℕ) : Type 0 where
 pub none_some : {A : Type 0} {a : Maybe A} {e : A} → a ≡ None → a ≡ Some e → ⊥
 none_some {e = e} n s = none-some e (sym n ∙ s)
 
+pub none_left : {A : Type 0} (a : Maybe A) → ((x : A) → a ≡ Some x → ⊥) → a ≡ None
+none_left None h = refl
+none_left (Some x) h = absurd (h x refl)
+
 pub some_same : {A : Type 0} {a : Maybe A} {e f : A} → a ≡ Some e → a ≡ Some f → e ≡ f
 some_same {e = e} {f} s t = same_Some e f (sym s ∙ t)
 

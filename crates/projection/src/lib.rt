@@ -51,6 +51,7 @@ struct Way {
 }
 
 // An arm: its word, its continuation and the arm after it in the chain, 0 for none.
+// kept: 0 for none, as the table's word has it. An Option would be made from it and taken apart again at each arm.
 #[derive(Clone, Copy, Debug, PartialEq, Eq)]
 struct Arm {
     word: u16,
@@ -79,6 +80,8 @@ fn narrow(field: usize) -> u16
 }
 
 // One word more on the stack; nothing where it is full, so that no sum wraps.
+// kept: the stack is a lent slice with its height beside it, and the height is answered. A struct around the `&mut` is no plainer: each clause
+// would say besides that the same slice is left in it, as long as it was.
 fn push(work: &mut [u16], at: usize, word: u16) -> usize
     ensures { Pushed work.old at word work.new result }
 {
@@ -100,7 +103,8 @@ fn close(work: &mut [u16], at: usize, marks: usize) -> usize
     top
 }
 
-// What the part of a role is made from.
+// What the part of a role is made from: a table with what is found in it, and the role.
+// kept: what is known of these (`Known`) stands in the relations. It holds lists of rows, which no ghost field may: such a fact has one proof.
 #[derive(Clone, Copy)]
 struct Projection<'a> {
     table: &'a [u16],
@@ -179,14 +183,14 @@ impl<'a> Projection<'a> {
     fn arm_at(&self, row: usize) -> Option<Arm>
         ensures { ArmRead self.now.table.now row result }
     {
-        match table::read(self.table, row) {
-            Row::Arm { label, then, next } => Some(Arm {
-                word: word(Code::Arm(narrow(label))),
-                then,
-                next,
-            }),
-            _ => None,
-        }
+        let Row::Arm { label, then, next } = table::read(self.table, row) else {
+            return None;
+        };
+        Some(Arm {
+            word: word(Code::Arm(narrow(label))),
+            then,
+            next,
+        })
     }
 
     // Where a plan is a Loop, or an exchange with one arm, its part is that of one other row, with words before and marks behind: puts the
@@ -237,21 +241,17 @@ impl<'a> Projection<'a> {
         let mut marks = 0;
         for less in (0..left).rev() {
             let plan = self.plan_at(here);
-            match self.enter(plan, work, top) {
-                Some(step) => {
-                    here = step.row;
-                    top = step.at;
-                    marks += step.marks;
-                }
-                None => {
-                    return Some(Way {
-                        plan,
-                        at: top,
-                        marks,
-                        left: less,
-                    });
-                }
-            }
+            let Some(step) = self.enter(plan, work, top) else {
+                return Some(Way {
+                    plan,
+                    at: top,
+                    marks,
+                    left: less,
+                });
+            };
+            here = step.row;
+            top = step.at;
+            marks += step.marks;
         }
         None
     }
@@ -352,6 +352,7 @@ fn project_all(table: &[u16], roles: usize, work: &mut [u16]) -> Result<(), Refu
 {
     let kept = reach::kept_roles(table);
     let order = chains::arms_in_order(table);
+    // kept: arrays of the largest size, since memory is fixed.
     let mut spare = [0u16; SPARE];
     let rows = table.len() / 4;
     let words = rows * 2 + 1;

@@ -50,7 +50,7 @@ loop-role-preserved c =
       c.project-part.auto.work ∙ was.0,
       omega (arith, length-append c.project-part.new.spare (drop words c.loop-role.spare), length-drop words c.loop-role.spare, c.project-part.auto.spare, lent, was.1, few),
       upto_more _ c.loop-role-test.true c.requires.0 (c.kept_roles-kept.ensures _ c.requires.0) (c.arms_in_order-order.ensures _ c.requires.0) (omega (arith, c.requires.1, was.0))
-      (omega (arith, lent)) was.2 c.project-part.ensures (ok_or_some _ c.ok_or.ensures.value c.in_ok-at.was),
+          (omega (arith, lent)) was.2 c.project-part.ensures (ok_or_some _ c.ok_or.ensures.value c.in_ok-at.was),
     )
 
 pub returns : goal.returns

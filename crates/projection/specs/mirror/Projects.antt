@@ -3,7 +3,7 @@
 use Rattle.std.specs.Prelude.{ℕ, zero, suc, ◌+◌, ◌*◌, ◌<◌, ◌≤◌, true, not, ◌||◌, List, [], ◌∷◌, ◌++◌, ◌≡◌, Some, None, Result, OnOk, ⊤, length, replicate}
 use Rattle.std.specs.Prelude.{Option as Maybe}
 use Rattle.std.proofs.Math.Option.{Option, none, some, bind}
-use Rattle.words.specs.Rows.{word, rows_of}
+use Rattle.words.specs.Rows.{word}
 use Rattle.table.specs.Limits.{Limits, base}
 use Rattle.table.specs.Numbers.{NOPART}
 use Rattle.table.specs.Rules.{rules}

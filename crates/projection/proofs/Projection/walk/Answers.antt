@@ -1,6 +1,7 @@
 -- `projection::Projection::walk` meets its contract. The invariant: the part of the first row is that of the row here, with words and marks
 -- around it. Assumes nothing.
 use native.Mathlib.Omega.{arith}
+use Rattle.projection.proofs.Steps.{none_left}
 use Rattle.projection.proofs.Walks.{comes_start, comes_on, walks, walks_nowhere}
 use Rattle.projection.proofs.Projection.walk.Goals as goal
 
@@ -15,9 +16,9 @@ pub loop-less-preserved : goal.loop-less-preserved
 loop-less-preserved c =
     comes_on c.in-Some.step c.loop-less.invariant c.plan_at-plan.ensures c.enter.ensures c.in-Some.is c.enter.auto.work (omega (arith, c.loop-less-test.true))
 
-pub returns-in-None : goal.returns-in-None
-returns-in-None c =
-    walks c.loop-less.invariant c.plan_at-plan.ensures c.enter.ensures c.in-None.is (omega (arith, c.loop-less-test.true))
+pub returns-in_default : goal.returns-in_default
+returns-in_default c =
+    walks c.loop-less.invariant c.plan_at-plan.ensures c.enter.ensures (none_left _ c.in_default.not-Some) (omega (arith, c.loop-less-test.true))
 
 pub returns : goal.returns
 returns c = walks_nowhere c.loop-less.invariant (omega arith)
