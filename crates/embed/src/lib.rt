@@ -31,9 +31,16 @@ pub extern "C" fn gaugetwinkle_open(
 ) -> u8
     ensures { Opens base table.now roles room.old (says result place.new) room.new }
 {
-    let verdict = opening::open(table, roles, room);
-    *place = verdict.place;
-    verdict.number
+    match opening::open(table, roles, room) {
+        Ok(()) => {
+            *place = 0;
+            0
+        }
+        Err(refusal) => {
+            *place = refusal.place;
+            u8::from(refusal.rule)
+        }
+    }
 }
 
 // A fresh state.
