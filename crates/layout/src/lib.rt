@@ -13,6 +13,7 @@ const LIMIT: usize = 65535;
 const ARM: u16 = 2;
 
 // Where the writing of a part stands.
+// kept: that `wait` is small stays a clause; as a ghost field it would have to be shown of each Walk that the mirrors build.
 #[derive(Clone, Copy, Debug, PartialEq, Eq)]
 struct Walk {
     // The next code, and the row that it gets.
@@ -163,6 +164,8 @@ fn turn(src: &[u16], at: Walk, out: &mut [u16], from: usize, loops: &mut [u16]) 
 // The codes of a part from `code` on written as the rows of the block that starts at row `from`. An arm's links are known when its
 // continuation is there, so the arms whose continuation is being written are chained through their own rows: the innermost is the one
 // that waits. Every turn is one code, so that `left` is never short of them.
+// kept: `out` comes whole, with `from` beside it: rows are counted from its start, as the block's readers count them; in a sub-slice each
+// function would count from another place than what is promised of it.
 fn lay(src: &[u16], code: usize, out: &mut [u16], from: usize, loops: &mut [u16]) -> Walk
     ensures { (result.code ≡ (run_s LIMIT src.now from code out.old 0 loops.old 0 0).res.code)
         × (result.row ≡ (run_s LIMIT src.now from code out.old 0 loops.old 0 0).res.row)
