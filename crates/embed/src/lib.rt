@@ -1,5 +1,6 @@
 // The C boundary: numbers and slices only. A state is lent as four slices of any lengths; it is copied in, the session's call is
 // made, and what the call hands back is copied out.
+// kept: the parameters of the exports and the numbers that they answer are the C interface.
 #![tactic(auto)]
 
 ghost use Rattle.std.specs.Prelude.{◌≡◌};

@@ -17,5 +17,5 @@ abbrev pub replaced : {A : Type 0} → ℕ → List A → List A → List A
 replaced n words old = cond (eqb (length old) n) words old
 
 -- what is read in: a state, where all four slices have the lengths of a state's
-abbrev pub given_of : Limits → List ℕ → List ℕ → List ℕ → List ℕ → Option Session
-given_of lim heads counts labels payloads = cond (is_state lim heads counts labels payloads) (Some (lent heads counts labels payloads)) None
+abbrev pub lent_state : Limits → List ℕ → List ℕ → List ℕ → List ℕ → Option Session
+lent_state lim heads counts labels payloads = cond (is_state lim heads counts labels payloads) (Some (lent heads counts labels payloads)) None

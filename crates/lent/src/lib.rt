@@ -1,15 +1,16 @@
 // A state lent as four slices of any lengths: it is read in, and what a call leaves is put back.
+// kept: the slices are four parameters, as the C exports have them; one export lends them shared, and the others mutably.
 #![tactic(auto)]
 
 ghost use Rattle.std.specs.Prelude.{◌≡◌, ◌*◌, length};
 ghost use Rattle.table.specs.Limits.{base};
-ghost use Rattle.lent.specs.Slices.{replaced, given_of};
+ghost use Rattle.lent.specs.Slices.{replaced, lent_state};
 
 use session::Session;
 
 // The state that the slices hold; none where one of them has not the length of a state's.
 pub fn read_in(heads: &[u16], counts: &[u8], labels: &[u8], payloads: &[u32]) -> Option<Session>
-    ensures { result ≡ given_of base heads.now counts.now labels.now payloads.now }
+    ensures { result ≡ lent_state base heads.now counts.now labels.now payloads.now }
 {
     Some(Session {
         heads: <[u16; Session::ROLES]>::try_from(heads).ok()?,

@@ -29,6 +29,7 @@ pub struct Session {
     pub payloads: [u32; Session::SLOTS],
 }
 
+// kept: the tables and their roles are two parameters of each call, since its public functions may ask no more of callers than they did.
 impl Session {
     pub const ROLES: usize = Table::ROLES;
 

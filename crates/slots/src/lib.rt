@@ -27,6 +27,7 @@ pub type Labels = Column<u8>;
 pub type Payloads = Column<u32>;
 
 // The slots of one pair, the oldest first.
+// kept: four reads; `try_into` is no plainer, since it leaves a Result whose Err cannot be.
 fn slots_of<T: Copy>(column: &Column<T>, pair: usize) -> [T; DEPTH]
     requires { pair < pairs base }
     ensures { result ≡ slots base column.now pair }
