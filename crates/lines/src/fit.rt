@@ -23,7 +23,7 @@ pub fn cut<T>(items: &[T], n: usize) -> &[T]
     &items[..n.min(items.len())]
 }
 
-// A kind of number that one of 32 bits may be too wide for: words and bytes.
+// A kind of number that one of 32 bits may be too wide for: words and bytes, and numbers of 32 bits beside them.
 pub trait Width: Copy + Drop {
     // The number that a value is, and those of a list of values.
     ghost number: { Self → ℕ };
@@ -52,7 +52,7 @@ impl Width for u16 {
 
     ghost MAX = { 65535 };
 
-    const MAX: u32 = 65535;
+    const MAX: u32 = u16::MAX as u32;
 
     ghost length_of_numbers = { λ xs. refl };
 
@@ -70,7 +70,7 @@ impl Width for u8 {
 
     ghost MAX = { 255 };
 
-    const MAX: u32 = 255;
+    const MAX: u32 = u8::MAX as u32;
 
     ghost length_of_numbers = { λ xs. refl };
 
@@ -78,6 +78,24 @@ impl Width for u8 {
 
     fn of(n: u32) -> u8 {
         n as u8
+    }
+}
+
+impl Width for u32 {
+    ghost number = { λ x. x };
+
+    ghost numbers = { λ xs. xs };
+
+    ghost MAX = { 4294967295 };
+
+    const MAX: u32 = u32::MAX;
+
+    ghost length_of_numbers = { λ xs. refl };
+
+    ghost numbers_of_set = { λ xs i x. refl };
+
+    fn of(n: u32) -> u32 {
+        n
     }
 }
 

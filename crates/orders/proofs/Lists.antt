@@ -1,62 +1,23 @@
 -- Parts of lists of numbers, and a state read from its numbers. Assumes nothing.
-use Prim.Native.Nat.{ℕ, ◌+◌, ◌-◌, ◌≤◌, ◌<◌, min}
-use mathlib.Core.Bool.{Bool, true, false, ◌&&◌}
+use Prim.Native.Nat.{ℕ, suc, ◌+◌, ◌-◌, ◌^◌, ◌≤◌, ◌<◌}
+use mathlib.Core.Bool.{Bool, true, false, cond, ◌&&◌, and-false, and-true}
 use mathlib.Core.List.{List, [], ◌∷◌, ◌++◌, append-nil}
 use mathlib.Core.Path.{◌≡◌, refl, sym, ◌∙◌, ap}
 use native.Mathlib.Omega.{arith}
 use lib.Dec.{ltb, eqb}
-use lib.ListN.{length, take, drop, replicate, length-take, length-drop, length-replicate, drop_of_length-le}
-use lib.Seq.{take_all, take-nil, take_at, take-add, drop-drop}
-use borrow.Author.Tests.{ltb-true, ltb-false, le-leb, eqb-true}
-use Rattle.words.proofs.Below.{and_both}
+use lib.ListN.{length, get_or, take, drop, length-drop, drop_of_length-le}
+use lib.Seq.{take_all, take_at, take-add, drop-drop}
+use Rattle.std.proofs.Common.{Option, Some, None, get_or-drop}
+use Rattle.std.specs.List.{IsSplitAt}
+use borrow.Author.Tests.{lt-ltb, le-leb, eq-eqb, ne_eqb, eqb-true, eqb-false}
 use Rattle.table.specs.Limits.{base}
 use Rattle.session.specs.declared.Session.{Session}
 use Rattle.lines.specs.Over.{overlaid, all_below, fits, narrowed}
 use Rattle.orders.specs.Orders.{is_state, state_of}
 
--- ---- parts
-
--- cut where the list ends
-pub cut : (n m : ℕ) (l : List ℕ) → m ≡ min n (length l) → take m l ≡ take n l
-cut n m l e = by_test (ltb n (length l)) refl
-  where
-    by_test : (t : Bool) → ltb n (length l) ≡ t → take m l ≡ take n l
-    by_test true f =
-        let h = ltb-true n (length l) f in
-        let same : m ≡ n = omega arith in
-        rw same
-    by_test false f =
-        let h = ltb-false n (length l) f in
-        take_all m l (omega arith) ∙ sym (take_all n l h)
-
-nothing_left : (from end : ℕ) (l : List ℕ) → min end (length l) < from → [] ≡ take (end - from) (drop from l)
-nothing_left from end l h = by_test (ltb end (length l)) refl
-  where
-    by_test : (t : Bool) → ltb end (length l) ≡ t → [] ≡ take (end - from) (drop from l)
-    by_test true f =
-        let g = ltb-true end (length l) f in
-        let e : end - from ≡ 0 = omega arith in
-        rw e
-    by_test false f =
-        let g = ltb-false end (length l) f in
-        let long : length l ≤ from = omega arith in
-        rw (drop_of_length-le l long, take-nil (end - from))
-
--- from a place to before another one
-pub between : (from end first last : ℕ) (l : List ℕ) → last ≡ min end (length l) → first ≡ min from last
-    → take (last - first) (drop first l) ≡ take (end - from) (drop from l)
-between from end first last l e f = by_test (ltb last from) refl
-  where
-    by_test : (t : Bool) → ltb last from ≡ t → take (last - first) (drop first l) ≡ take (end - from) (drop from l)
-    by_test true g =
-        let h = ltb-true last from g in
-        let n : last - first ≡ 0 = omega arith in
-        rw n (nothing_left from end l (omega arith))
-    by_test false g =
-        let h = ltb-false last from g in
-        let n : first ≡ from = omega arith in
-        let m : last - from ≡ min (end - from) (length (drop from l)) = simp length-drop (omega arith) in
-        rw n (cut (end - from) (last - from) (drop from l) m)
+-- what is left behind a place
+pub all_behind : (n : ℕ) (l : List ℕ) → take (length l - n) (drop n l) ≡ drop n l
+all_behind n l = take_all (length l - n) (drop n l) (rw (length-drop n l) (omega arith))
 
 -- ---- written over
 
@@ -100,60 +61,90 @@ below_append bound (x ∷ xs) ys = by_test (ltb x bound) (below_append bound xs 
     by_test true e = e
     by_test false e = refl
 
-module _ (ns : List ℕ) (long : length ns ≡ 584) where
-  pub is_state_lem : is_state base ns ≡ (fits 65536 (take 8 ns) (replicate 8 0) && fits 256 (take 320 (drop 8 ns)) (replicate 320 0))
+-- an array of as many numbers as there are, all of them below the bound
+array_below : (bound n : ℕ) (ns old : List ℕ) (r : Bool) → length ns ≡ n → length old ≡ n → r ≡ fits bound ns old → all_below bound ns ≡ r
+array_below bound n ns old r e f g = sym (fits_below bound ns old (omega arith)) ∙ sym g
+
+pub array_none : (bound n : ℕ) (ns old : List ℕ) (r : Bool) → length ns ≡ n → length old ≡ n → r ≡ fits bound ns old → r ≡ false
+    → (eqb (length ns) n && all_below bound ns) ≡ false
+array_none bound n ns old r e f g h = rw (array_below bound n ns old r e f g, h) (and-false (eqb (length ns) n))
+
+pub array_some : (bound n : ℕ) (ns old new : List ℕ) (r : Bool) → length ns ≡ n → length old ≡ n → r ≡ fits bound ns old → r ≡ true → new ≡ narrowed bound ns old
+    → (length ns ≡ n) × (all_below bound ns ≡ true) × (new ≡ ns)
+array_some bound n ns old new r e f g h k =
+    let below : all_below bound ns ≡ true = array_below bound n ns old r e f g ∙ h in
+    (e, below, k ∙ narrowed_all bound ns old (omega arith) below)
+
+-- a number of 32 bits is below 2 ^ 32
+pub all_words : (ns : List ℕ) → ((i : ℕ) → get_or ns i 0 < 2 ^ 32) → all_below (2 ^ 32) ns ≡ true
+unfolding all_below
+all_words [] f = refl
+all_words (n ∷ ns) f = rw (lt-ltb n (2 ^ 32) (f 0)) (all_words ns (λ i. f (suc i)))
+
+last_first : (e h c l : Bool) → (e && (h && (c && l))) ≡ (h && (c && (l && e)))
+last_first e false c l = and-false e
+last_first e true false l = and-false e
+last_first e true true false = and-false e
+last_first true true true true = refl
+last_first false true true true = refl
+
+pub too_few : (ns : List ℕ) → length ns < 584 → is_state base ns ≡ false
+unfolding is_state
+too_few ns l = rw (ne_eqb (length ns) 584 (λ e. omega arith))
+
+-- numbers that are split into those of the heads, the counts, the labels and the payloads
+module _ (ns hs bs cs ds ls ps : List ℕ) (x : IsSplitAt ns 8 hs bs) (y : IsSplitAt bs 64 cs ds) (z : IsSplitAt ds 256 ls ps) where
+  same_long : eqb (length ns) 584 ≡ eqb (length ps) 256
+  same_long = by (eqb (length ps) 256) refl
+    where
+      by : (t : Bool) → eqb (length ps) 256 ≡ t → eqb (length ns) 584 ≡ t
+      by true e = eq-eqb (length ns) 584 (omega (arith, eqb-true (length ps) 256 e, x.4, y.4, z.4))
+      by false e = ne_eqb (length ns) 584 (λ f. eqb-false (length ps) 256 e (omega (arith, f, x.4, y.4, z.4)))
+
+  labels_are : ls ≡ take 256 (drop 72 ns)
+  labels_are = z.1 ∙ rw (y.2, x.2, drop-drop 64 8 ns)
+
+  payloads_are : ps ≡ drop 328 ns
+  payloads_are = z.2 ∙ rw (y.2, x.2, drop-drop 64 8 ns, drop-drop 256 72 ns)
+
+  bytes : all_below 256 (take 320 (drop 8 ns)) ≡ (all_below 256 cs && all_below 256 ls)
+  bytes =
+      let split : take 320 (drop 8 ns) ≡ cs ++ ls = take-add 64 256 (drop 8 ns) ∙ rw (z.1, y.1, y.2, x.2) in
+      rw split (below_append 256 cs ls)
+
+  parts : is_state base ns ≡ (all_below 65536 hs && (all_below 256 cs && (all_below 256 ls && eqb (length ps) 256)))
   unfolding is_state
-  is_state_lem =
-      let e = fits_below 65536 (take 8 ns) (replicate 8 0) (simp (length-take, length-replicate) (omega arith)) in
-      let f = fits_below 256 (take 320 (drop 8 ns)) (replicate 320 0) (simp (length-take, length-drop, length-replicate) (omega arith)) in
-      rw (e, f, long)
+  parts =
+      rw (same_long, ← (x.1), bytes) (last_first (eqb (length ps) 256) (all_below 65536 hs) (all_below 256 cs) (all_below 256 ls))
 
--- the parts of its numbers, where they are a state's
-module _ (ns : List ℕ) (good : is_state base ns ≡ true) where
-  long : length ns ≡ 584
-  unfolding is_state
-  long =
-      let rest = all_below 65536 (take 8 ns) && all_below 256 (take 320 (drop 8 ns)) in
-      eqb-true (length ns) 584 (and_both (eqb (length ns) 584) rest good).0
+  pub not_heads : (eqb (length hs) 8 && all_below 65536 hs) ≡ false → is_state base ns ≡ false
+  not_heads e = let f : all_below 65536 hs ≡ false = rw (eq-eqb (length hs) 8 x.3) at e in parts ∙ rw f
 
-  both : (all_below 65536 (take 8 ns) ≡ true) × (all_below 256 (take 320 (drop 8 ns)) ≡ true)
-  unfolding is_state
-  both =
-      let all = (and_both (eqb (length ns) 584) (all_below 65536 (take 8 ns) && all_below 256 (take 320 (drop 8 ns))) good).1 in
-      and_both (all_below 65536 (take 8 ns)) (all_below 256 (take 320 (drop 8 ns))) all
+  pub not_counts : (eqb (length cs) 64 && all_below 256 cs) ≡ false → is_state base ns ≡ false
+  not_counts e = let f : all_below 256 cs ≡ false = rw (eq-eqb (length cs) 64 y.3) at e in parts ∙ rw f (and-false (all_below 65536 hs))
 
-  counts_labels : (all_below 256 (take 64 (drop 8 ns)) ≡ true) × (all_below 256 (take 256 (drop 72 ns)) ≡ true)
-  counts_labels =
-      let split : take 320 (drop 8 ns) ≡ take 64 (drop 8 ns) ++ take 256 (drop 64 (drop 8 ns)) = take-add 64 256 (drop 8 ns) in
-      let behind : drop 64 (drop 8 ns) ≡ drop 72 ns = drop-drop 64 8 ns in
-      let all : (all_below 256 (take 64 (drop 8 ns)) && all_below 256 (take 256 (drop 72 ns))) ≡ true =
-      sym (below_append 256 (take 64 (drop 8 ns)) (take 256 (drop 72 ns))) ∙ (rw (← behind, ← split) both.1) in
-      and_both (all_below 256 (take 64 (drop 8 ns))) (all_below 256 (take 256 (drop 72 ns))) all
+  pub not_labels : (eqb (length ls) 256 && all_below 256 ls) ≡ false → is_state base ns ≡ false
+  not_labels e =
+      let f : all_below 256 ls ≡ false = rw (eq-eqb (length ls) 256 z.3) at e in
+      parts ∙ rw (f, and-false (all_below 256 cs)) (and-false (all_below 65536 hs))
 
-  heads_read : narrowed 65536 (take 8 ns) (replicate 8 0) ≡ take 8 ns
-  heads_read = narrowed_all 65536 (take 8 ns) (replicate 8 0) (simp (length-take, length-replicate) (omega (arith, long))) both.0
-
-  counts_read : narrowed 256 (take 64 (drop 8 ns)) (replicate 64 0) ≡ take 64 (drop 8 ns)
-  counts_read =
-      narrowed_all 256 (take 64 (drop 8 ns)) (replicate 64 0) (simp (length-take, length-drop, length-replicate) (omega (arith, long))) counts_labels.0
-
-  labels_read : narrowed 256 (take 256 (drop 72 ns)) (replicate 256 0) ≡ take 256 (drop 72 ns)
-  labels_read =
-      narrowed_all 256 (take 256 (drop 72 ns)) (replicate 256 0) (simp (length-take, length-drop, length-replicate) (omega (arith, long))) counts_labels.1
-
-  payloads_read : overlaid 0 (take 256 (drop 328 ns)) (replicate 256 0) ≡ take 256 (drop 328 ns)
-  payloads_read = over_all (take 256 (drop 328 ns)) (replicate 256 0) (simp (length-take, length-drop, length-replicate) (omega (arith, long)))
+  pub not_payloads : ((i : ℕ) → get_or ns i 0 < 2 ^ 32) → (eqb (length ps) 256 && all_below (2 ^ 32) ps) ≡ false → is_state base ns ≡ false
+  not_payloads small e =
+      let words : all_below (2 ^ 32) ps ≡ true = all_words ps (λ i. rw payloads_are (rw (get_or-drop 328 ns i 0) (small (328 + i)))) in
+      let f : eqb (length ps) 256 ≡ false = sym (and-true (eqb (length ps) 256)) ∙ (rw words at e) in
+      parts ∙ rw (f, and-false (all_below 256 ls), and-false (all_below 256 cs)) (and-false (all_below 65536 hs))
 
   -- the state that they are
-  pub state_read : {h c l p hs cs ls ps : List ℕ} → h ≡ narrowed 65536 hs (replicate 8 0) → hs ≡ take 8 ns → c ≡ narrowed 256 cs (replicate 64 0)
-      → cs ≡ take 64 (drop 8 ns) → l ≡ narrowed 256 ls (replicate 256 0) → ls ≡ take 256 (drop 72 ns) → p ≡ overlaid 0 ps (replicate 256 0)
-      → ps ≡ take 256 (drop 328 ns) → ◌≡◌ {A = Session} (record { heads = h; counts = c; labels = l; payloads = p }) (state_of base ns)
-  state_read {h = h} {c = c} {l = l} {p = p} eh ehs ec ecs el els ep eps =
-      let heads : h ≡ take 8 ns = eh ∙ rw ehs heads_read in
-      let counts : c ≡ take 64 (drop 8 ns) = ec ∙ rw ecs counts_read in
-      let labels : l ≡ take 256 (drop 72 ns) = el ∙ rw els labels_read in
-      let payloads : p ≡ take 256 (drop 328 ns) = ep ∙ rw eps payloads_read in
-      rw (heads, counts, labels, payloads)
+  pub state_read : (h c l p : List ℕ) → (length hs ≡ 8) × (all_below 65536 hs ≡ true) × (h ≡ hs) → (length cs ≡ 64) × (all_below 256 cs ≡ true) × (c ≡ cs)
+      → (length ls ≡ 256) × (all_below 256 ls ≡ true) × (l ≡ ls) → (length ps ≡ 256) × (all_below (2 ^ 32) ps ≡ true) × (p ≡ ps)
+      → ◌≡◌ {A = Option Session} (Some (record { heads = h; counts = c; labels = l; payloads = p })) (cond (is_state base ns) (Some (state_of base ns)) None)
+  state_read h c l p eh ec el ep =
+      let all : is_state base ns ≡ true = parts ∙ rw (eh.1, ec.1, el.1) (eq-eqb (length ps) 256 ep.0) in
+      let heads : h ≡ take 8 ns = eh.2 ∙ x.1 in
+      let counts : c ≡ take 64 (drop 8 ns) = ec.2 ∙ rw y.1 (rw x.2) in
+      let labels : l ≡ take 256 (drop 72 ns) = el.2 ∙ labels_are in
+      let payloads : p ≡ take 256 (drop 328 ns) = ep.2 ∙ (payloads_are ∙ sym (take_all 256 (drop 328 ns) (rw (← payloads_are) (omega (arith, ep.0))))) in
+      rw (all, heads, counts, labels, payloads)
 
 -- all but the first
 pub over_rest : (n : ℕ) (hs zs : List ℕ) → length hs ≡ length zs → overlaid 1 hs (n ∷ zs) ≡ n ∷ hs

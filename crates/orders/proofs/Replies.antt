@@ -1,37 +1,39 @@
 -- What the code says, read as a reply. Assumes nothing.
-use Prim.Native.Nat.{ℕ, ◌≤◌}
+use Prim.Native.Nat.{ℕ, ◌≤◌, ◌<◌}
 use mathlib.Core.Bool.{Bool, true, false, cond, not}
-use mathlib.Core.List.{List, [], ◌∷◌, append-nil}
-use mathlib.Core.Logic.{◌≢◌}
-use mathlib.Core.Path.{◌≡◌, refl, sym}
+use mathlib.Core.List.{List, [], ◌∷◌, ◌++◌, append-nil}
+use mathlib.Core.Path.{◌≡◌, refl, sym, ◌∙◌}
 use native.Mathlib.Omega.{arith}
-use lib.ListN.{length, take}
+use lib.ListN.{length, get_or, take}
 use lib.Seq.{take_all}
 use borrow.Author.Tests.{ne_eqb}
+use Rattle.std.proofs.Common.{Option, Some, None, Ok, Err}
+use Rattle.std.specs.Result.{result_unwrap_or}
 use Rattle.table.specs.Limits.{base}
 use Rattle.blocks.specs.Tables.{tables_good}
 use Rattle.session.specs.Calls.{fresh_of, send_of, receive_of}
-use Rattle.session.specs.declared.Session.{Session}
 use Rattle.session.specs.Awaited.{awaited_of}
 use Rattle.session.specs.Answers.{Answer, Awaiting}
+use Rattle.session.specs.Results.{label_in, payload_in}
+use Rattle.session.specs.declared.answers.Message.{Message}
+use Rattle.session.specs.declared.Session.{Session}
 use Rattle.session.proofs.First.{length_first}
-use Rattle.orders.specs.Orders.{Kept, Reply, number, malformed, state_of, is_state, freshened, handed, sent, received, sending, receiving, is_call, call_order}
+use Rattle.orders.specs.Orders.{Kept, Reply, number, malformed, calls, awaited, awaited_in, state_of, is_state, freshened, handed, sent, received, sending, receiving, is_call, call_order}
 use Rattle.orders.specs.Lines.{keeps}
 use Rattle.orders.specs.declared.run.Run.{Run}
+use Rattle.orders.specs.declared.run.Told.{Told}
 use Rattle.orders.specs.declared.run.Said.{Said}
-use Rattle.orders.specs.mirror.Said.{says, Says, padded, said_nothing, said_of}
+use Rattle.orders.specs.mirror.Said.{tells, Says, said_of}
 
-pub told : {s x : Said} {ws : List ℕ} {r : Reply} → s ≡ x → x.count ≤ 9 → x.shown ≤ 8192 → says x ws ≡ r → Says s ws r
-told e few short reply = rw e record { few = few; short = short; reply = reply }
+pub told : {s x : Said} {ws ns : List ℕ} {r : Reply} → s ≡ x → tells x.told ≡ ns → 0 < length ns → length ns ≤ 9 → x.shown ≤ 8192
+    → record { numbers = ns ++ take x.shown ws; kept = keeps x.run ws } ≡ r → Says s ws r
+told e f some few short reply = rw e record { some = rw f some; few = rw f few; short = short; reply = rw f reply }
 
-pub told_as : {s : Said} {ws : List ℕ} {q r : Reply} → r ≡ q → Says s ws q → Says s ws r
-told_as e s = rw e s
-
--- a malformed order
-pub told_nothing : {s : Said} {r : Reply} (run : Run) (ws : List ℕ) → s ≡ said_nothing run → r ≡ malformed (keeps run ws) → Says s ws r
-told_nothing run ws e f = rw (e, f) record { few = omega arith; short = omega arith; reply = refl }
-
--- ---- the calls
+-- numbers told by a call
+pub called : {s : Said} {r : Reply} (run : Run) (ws ns : List ℕ) (t : Told) (state : Session) → s ≡ said_of run t state
+    → tells t ≡ ns → 0 < length ns → length ns ≤ 9
+    → r ≡ record { numbers = ns; kept = calls (keeps run ws) state } → Says s ws r
+called run ws ns t state e f some few g = told e f some few (omega arith) (rw (g, append-nil ns))
 
 -- a fresh session has as many heads as there may be roles
 either : (b : Bool) (x y : Answer) → length x.state.heads ≡ 8 → length y.state.heads ≡ 8 → length (cond b x y).state.heads ≡ 8
@@ -42,70 +44,97 @@ fresh_heads : (ts : List ℕ) (roles : ℕ) → length (fresh_of base ts roles).
 unfolding fresh_of
 fresh_heads ts roles = either (not (tables_good base ts roles)) _ _ refl (length_first ts roles 8)
 
-pub fresh_reply : (run : Run) (ws ts t : List ℕ) (a : Answer) → a ≡ fresh_of base ts run.roles → ts ≡ take run.words ws
-    → t ≡ a.number ∷ a.state.heads
-    → says (said_of run 9 t a.state) ws ≡ freshened base (keeps run ws)
+pub fresh_said : {s : Said} (run : Run) (ws ts : List ℕ) (t : Told) (a : Answer) → a ≡ fresh_of base ts run.roles → ts ≡ take run.words ws
+    → t.numbers ≡ a.number ∷ a.state.heads → t.count ≡ 9 → s ≡ said_of run t a.state → Says s ws (freshened base (keeps run ws))
 unfolding freshened
-fresh_reply run ws ts t a e f g =
+fresh_said run ws ts t a e f g h i =
     let long : length a.state.heads ≡ 8 = rw e (fresh_heads ts run.roles) in
     let fresh : fresh_of base (take run.words ws) run.roles ≡ a = rw (← f) (sym e) in
-    rw (fresh, g, take_all 8 a.state.heads (omega arith), append-nil a.state.heads)
+    let all : tells t ≡ a.number ∷ a.state.heads = rw (g, h, take_all 8 a.state.heads (omega arith)) in
+    called run ws (a.number ∷ a.state.heads) t a.state i all (omega arith) (omega (arith, long)) (rw fresh)
 
--- the awaited roles of a state, over the tables that the run has
-module _ (run : Run) (ws ts : List ℕ) (s : Session) (w : Awaiting) (e : ts ≡ take run.words ws) (f : w ≡ awaited_of base ts run.roles s) where
-  awaited_is : awaited_of base (take run.words ws) run.roles s ≡ w
-  awaited_is = rw (← e) (sym f)
+-- the awaited roles of a state stand behind the other numbers
+pub hand_said : {s : Said} (run : Run) (ws ts vs : List ℕ) (t : Told) (state : Session) (n : ℕ) (w : Awaiting) → w ≡ awaited_of base ts run.roles state → ts ≡ take run.words ws
+    → n ≡ w.number → vs ≡ awaited (awaited_in base (keeps run ws) state) → tells t ≡ n ∷ get_or vs 0 0 ∷ get_or vs 1 0 ∷ get_or vs 2 0 ∷ []
+    → s ≡ said_of run t state → Says s ws (handed base (keeps run ws) state)
+unfolding handed
+hand_said run ws ts vs t state n w e f g h i j =
+    let is : awaited_of base (take run.words ws) run.roles state ≡ w = rw (← f) (sym e) in
+    called run ws (n ∷ awaited (awaited_in base (keeps run ws) state)) t state j (rw h at i) (omega arith) (omega arith) (rw (is, g))
 
-  pub hand_reply : says (said_of run 4 (padded (w.number ∷ w.set ∷ w.count ∷ w.lowest ∷ [])) s) ws ≡ handed base (keeps run ws) s
-  unfolding handed
-  hand_reply = rw awaited_is
+pub sent_said : {s : Said} (run : Run) (ws vs : List ℕ) (t : Told) (a : Answer) (n o : ℕ) → n ≡ a.number → o ≡ a.offered
+    → vs ≡ awaited (awaited_in base (keeps run ws) a.state) → tells t ≡ n ∷ o ∷ get_or vs 0 0 ∷ get_or vs 1 0 ∷ get_or vs 2 0 ∷ []
+    → s ≡ said_of run t a.state → Says s ws (sent base (keeps run ws) a)
+unfolding sent
+sent_said run ws vs t a n o e f g h i =
+    called run ws (n ∷ o ∷ awaited (awaited_in base (keeps run ws) a.state)) t a.state i (rw g at h) (omega arith) (omega arith) (rw (e, f))
 
-module _ (run : Run) (ws ts : List ℕ) (a : Answer) (w : Awaiting) (e : ts ≡ take run.words ws) (f : w ≡ awaited_of base ts run.roles a.state) where
-  pub sent_reply : says (said_of run 5 (padded (a.number ∷ a.offered ∷ w.set ∷ w.count ∷ w.lowest ∷ [])) a.state) ws ≡ sent base (keeps run ws) a
-  unfolding sent
-  sent_reply = rw (awaited_is run ws ts a.state w e f)
+pub received_said : {s : Said} (run : Run) (ws vs : List ℕ) (t : Told) (a : Answer) (n l p o : ℕ) → n ≡ a.number → l ≡ a.label → p ≡ a.payload → o ≡ a.offered
+    → vs ≡ awaited (awaited_in base (keeps run ws) a.state)
+    → tells t ≡ n ∷ l ∷ p ∷ o ∷ get_or vs 0 0 ∷ get_or vs 1 0 ∷ get_or vs 2 0 ∷ []
+    → s ≡ said_of run t a.state → Says s ws (received base (keeps run ws) a)
+unfolding received
+received_said run ws vs t a n l p o e f g h i j k =
+    called run ws (n ∷ l ∷ p ∷ o ∷ awaited (awaited_in base (keeps run ws) a.state)) t a.state k (rw i at j) (omega arith) (omega arith) (rw (e, f, g, h))
 
-  pub received_reply : says (said_of run 7 (padded (a.number ∷ a.label ∷ a.payload ∷ a.offered ∷ w.set ∷ w.count ∷ w.lowest ∷ [])) a.state) ws
-      ≡ received base (keeps run ws) a
-  unfolding received
-  received_reply = rw (awaited_is run ws ts a.state w e f)
+-- ---- the numbers of each call
 
-module _ (run : Run) (ws ns : List ℕ) {ts : List ℕ} (e : ts ≡ take run.words ws) {a : Answer} {s : Said} where
-  pub sent_as : {p q l v : ℕ} → p ≡ number ns 0 → q ≡ number ns 1 → l ≡ number ns 2 → v ≡ number ns 3
-      → a ≡ send_of base ts run.roles p q l v run.state
-      → Says s ws (sent base (keeps run ws) a) → Says s ws (sent base (keeps run ws) (sending base (keeps run ws) ns))
-  sent_as f g h i j said =
-      let same : sending base (keeps run ws) ns ≡ a = rw (← e, ← f, ← g, ← h, ← i) (sym j) in
-      rw same said
+module _ (k : Kept) (ns : List ℕ) where
+  pub call_fresh : length ns ≡ 0 → call_order base k 102 ns ≡ freshened base k
+  unfolding call_order is_call
+  call_fresh e = rw e
 
-  pub received_as : {p q : ℕ} → p ≡ number ns 0 → q ≡ number ns 1 → a ≡ receive_of base ts run.roles p q run.state
-      → Says s ws (received base (keeps run ws) a) → Says s ws (received base (keeps run ws) (receiving base (keeps run ws) ns))
-  received_as f g h said =
-      let same : receiving base (keeps run ws) ns ≡ a = rw (← e, ← f, ← g) (sym h) in
-      rw same said
+  pub no_fresh : (length ns ≡ 0 → ⊥) → call_order base k 102 ns ≡ malformed k
+  unfolding call_order is_call
+  no_fresh e = rw (ne_eqb (length ns) 0 e)
 
-pub call_state : (letter : ℕ) (ns : List ℕ) → is_call base letter ns ≡ true → letter ≡ 104 → is_state base ns ≡ true
-unfolding is_call
-call_state letter ns good e = rw e at good
+  pub call_hand : is_state base ns ≡ true → call_order base k 104 ns ≡ handed base k (state_of base ns)
+  unfolding call_order is_call
+  call_hand e = rw e
 
-module _ (k : Kept) (letter : ℕ) (ns : List ℕ) where
-  pub no_call : is_call base letter ns ≡ false → call_order base k letter ns ≡ malformed k
-  unfolding call_order
-  no_call e = rw e
+  pub no_hand : is_state base ns ≡ false → call_order base k 104 ns ≡ malformed k
+  unfolding call_order is_call
+  no_hand e = rw e
 
-  module _ (good : is_call base letter ns ≡ true) where
-    pub call_fresh : letter ≡ 102 → call_order base k letter ns ≡ freshened base k
-    unfolding call_order
-    call_fresh e = rw (good, e)
+  pub call_send : length ns ≡ 4 → call_order base k 115 ns ≡ sent base k (sending base k ns)
+  unfolding call_order is_call
+  call_send e = rw e
 
-    pub call_hand : letter ≡ 104 → call_order base k letter ns ≡ handed base k (state_of base ns)
-    unfolding call_order
-    call_hand e = rw (good, e)
+  pub no_send : (length ns ≡ 4 → ⊥) → call_order base k 115 ns ≡ malformed k
+  unfolding call_order is_call
+  no_send e = rw (ne_eqb (length ns) 4 e)
 
-    pub call_send : letter ≡ 115 → call_order base k letter ns ≡ sent base k (sending base k ns)
-    unfolding call_order
-    call_send e = rw (good, e)
+  pub call_receive : length ns ≡ 2 → call_order base k 114 ns ≡ received base k (receiving base k ns)
+  unfolding call_order is_call
+  call_receive e = rw e
 
-    pub call_receive : letter ≢ 102 → letter ≢ 104 → letter ≢ 115 → call_order base k letter ns ≡ received base k (receiving base k ns)
-    unfolding call_order
-    call_receive e f g = rw (good, ne_eqb letter 102 e, ne_eqb letter 104 f, ne_eqb letter 115 g)
+  pub no_receive : (length ns ≡ 2 → ⊥) → call_order base k 114 ns ≡ malformed k
+  unfolding call_order is_call
+  no_receive e = rw (ne_eqb (length ns) 2 e)
+
+-- what an answer by cases says of its test
+pub none_of : {A : Type 0} (b : Bool) (x : A) → ◌≡◌ {A = Option A} None (cond b (Some x) None) → b ≡ false
+none_of true x e = cc
+none_of false x e = refl
+
+pub some_of : {A : Type 0} (b : Bool) (x y : A) → ◌≡◌ {A = Option A} (Some y) (cond b (Some x) None) → (b ≡ true) × (y ≡ x)
+some_of true x y e = (refl, cc)
+some_of false x y e = absurd (cc)
+
+module _ (run : Run) (ws ts ns : List ℕ) (e : ts ≡ take run.words ws) {a : Answer} {s : Said} where
+  pub send_said : length ns ≡ 4 → a ≡ send_of base ts run.roles (number ns 0) (number ns 1) (number ns 2) (number ns 3) run.state
+      → Says s ws (sent base (keeps run ws) a) → Says s ws (call_order base (keeps run ws) 115 ns)
+  send_said four f said =
+      let same : sending base (keeps run ws) ns ≡ a = rw (← e) (sym f) in
+      rw (call_send (keeps run ws) ns four, same) said
+
+  pub receive_said : length ns ≡ 2 → a ≡ receive_of base ts run.roles (number ns 0) (number ns 1) run.state
+      → Says s ws (received base (keeps run ws) a) → Says s ws (call_order base (keeps run ws) 114 ns)
+  receive_said two f said =
+      let same : receiving base (keeps run ws) ns ≡ a = rw (← e) (sym f) in
+      rw (call_receive (keeps run ws) ns two, same) said
+
+-- the message of an answer, or that of zeros
+pub message_in : (r : _) (m : Message) → m ≡ result_unwrap_or r (record { label = 0; payload = 0 }) → (m.label ≡ label_in r) × (m.payload ≡ payload_in r)
+message_in (Ok x) m e = rw e (refl, refl)
+message_in (Err x) m e = rw e (refl, refl)

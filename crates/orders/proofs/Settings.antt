@@ -17,10 +17,11 @@ use Rattle.orders.specs.Orders.{Kept, number, malformed, opened, tabled, open_or
 use Rattle.orders.specs.Lines.{keeps}
 use Rattle.orders.specs.declared.run.Run.{Run}
 use Rattle.orders.specs.declared.run.Said.{Said}
-use Rattle.orders.specs.mirror.Said.{Says, said_nothing, said_over}
+use Rattle.orders.specs.declared.run.Told.{Told}
+use Rattle.orders.specs.mirror.Said.{tells, Says, said_over}
 use Rattle.orders.proofs.Lists.{over_front, narrowed_is, fits_below}
 use Rattle.orders.proofs.Openings.{few}
-use Rattle.orders.proofs.Replies.{told, told_nothing}
+use Rattle.orders.proofs.Replies.{told as told_as}
 
 -- ---- numbers as words
 
@@ -83,13 +84,13 @@ module _ (t ts : List ℕ) (roles words : ℕ) (v : Verdict) (w : words ≡ cond
       by false e g = omega arith
 
 -- an opening's verdict and its words
-pub open_said : {s : Said} (run : Run) (t before after : List ℕ) (roles room words : ℕ) (v : Verdict)
-    → s ≡ said_over run 2 (v.number ∷ v.place ∷ replicate 7 0) words roles words → words ≡ cond (eqb v.number 0) (roles * length t) 0
+pub open_said : {s : Said} (run : Run) (told : Told) (t before after : List ℕ) (roles room words : ℕ) (v : Verdict)
+    → s ≡ said_over run told words roles words → tells told ≡ v.number ∷ v.place ∷ [] → words ≡ cond (eqb v.number 0) (roles * length t) 0
     → v ≡ open_of base t roles room → (v.number ≡ 0 → take (roles * length t) after ≡ blocks t roles)
     → Says s after (opened base (keeps run before) roles room t)
 unfolding opened
-open_said run t before after roles room words v e w f g =
-    told e (omega arith) (short t after roles words v w (λ z. few t roles room (sym (ap (λ (x : Verdict). x.number) f) ∙ z)))
+open_said run told t before after roles room words v e h w f g =
+    told_as e h (omega arith) (omega arith) (short t after roles words v w (λ z. few t roles room (sym (ap (λ (x : Verdict). x.number) f) ∙ z)))
     (rw (← f, shown t after roles words v w g))
 
 -- ---- `t`
@@ -98,28 +99,26 @@ pub set_short : (k : Kept) (ns : List ℕ) → length ns ≡ 0 → table_order b
 unfolding table_order
 set_short k ns l = rw (lt-leb 1 (length ns) (omega arith))
 
-module _ {s : Said} (run : Run) (ns before : List ℕ) (l : 1 ≤ length ns) {ws new : List ℕ} (e : ws ≡ drop 1 ns)
+module _ (run : Run) (ns before : List ℕ) (l : 1 ≤ length ns) {ws new : List ℕ} (e : ws ≡ drop 1 ns)
     (f : new ≡ narrowed 65536 ws before) where
   -- nothing is written
-  pub set_wide : length ns ≤ 65536 → length before ≡ 65536 → fits 65536 ws before ≡ false → s ≡ said_nothing run
-      → Says s new (table_order base (keeps run before) ns)
+  pub set_wide : length ns ≤ 65536 → length before ≡ 65536 → fits 65536 ws before ≡ false
+      → (table_order base (keeps run before) ns ≡ malformed (keeps run before)) × (new ≡ before)
   unfolding table_order
-  set_wide few_ns room g h =
+  set_wide few_ns room g =
       let short : length ws ≤ length before = rw (e, length-drop 1 ns) (omega arith) in
       let wide : all_below 65536 (drop 1 ns) ≡ false = rw (← e) (sym (fits_below 65536 ws before short) ∙ g) in
-      let still : new ≡ before = f ∙ words_not ws before g in
-      rw still (told_nothing run before h (rw (le-leb 1 (length ns) l, wide)))
+      (rw (le-leb 1 (length ns) l, wide), f ∙ words_not ws before g)
 
   -- the tables are set
-  pub set_told : {tab : List ℕ} {roles : ℕ} → fits 65536 ws before ≡ true → tab ≡ take (length ws) new → roles ≡ number ns 0
-      → s ≡ said_over run 1 ((fresh_of base tab roles).number ∷ replicate 8 0) 0 roles (length tab)
+  pub set_told : {s : Said} {tab : List ℕ} {roles n : ℕ} (told : Told) → fits 65536 ws before ≡ true → tab ≡ take (length ws) new → roles ≡ number ns 0
+      → n ≡ (fresh_of base tab roles).number → tells told ≡ n ∷ [] → s ≡ said_over run told 0 roles (length ws)
       → Says s new (table_order base (keeps run before) ns)
   unfolding table_order tabled
-  set_told {tab = tab} g h i j =
+  set_told {tab = tab} told g h i k m j =
       let all : all_below 65536 (drop 1 ns) ≡ true = rw (← e) (words_below ws before g).1 in
       let there : take (length ws) new ≡ ws = rw f (words_read ws before g) in
       let same : tab ≡ drop 1 ns = h ∙ (there ∙ e) in
-      let kept : take (length (drop 1 ns)) new ≡ drop 1 ns = rw (← e) there in
-      let number_told = (fresh_of base (drop 1 ns) (number ns 0)).number in
+      let kept : take (length ws) new ≡ drop 1 ns = there ∙ e in
       rw (le-leb 1 (length ns) l, all)
-      (told {x = said_over run 1 (number_told ∷ replicate 8 0) 0 (number ns 0) (length (drop 1 ns))} (j ∙ rw (same, i)) (omega arith) (omega arith) (rw kept))
+      (told_as j m (omega arith) (omega arith) (omega arith) (rw (kept, k, same, i)))

@@ -5,20 +5,13 @@ use mathlib.Core.List.{List, [], ◌∷◌, ◌++◌}
 use mathlib.Core.Path.{◌≡◌, refl, sym, ◌∙◌, ap}
 use native.Mathlib.Omega.{arith}
 use lib.Dec.{ltb}
-use lib.ListN.{length, take, drop, set, length-append}
+use lib.ListN.{length, take, drop, length-append, length-take}
 use lib.Seq.{take_all, take_at, take-append-le, length-take-le}
 use Rattle.lines.specs.Over.{overlaid, behind}
 use Rattle.lines.specs.Text.{digits_of, decimal, text_of}
 use Rattle.lines.proofs.Stores.{length_over}
-use Rattle.orders.specs.Orders.{Kept}
-use Rattle.orders.specs.Lines.{Written, worded}
+use Rattle.orders.specs.Lines.{worded}
 use Rattle.orders.proofs.Lists.{over_start, over_front}
-
--- `?` and a newline
-pub asked : (text : List ℕ) → 2 ≤ length text → take 2 (set (set text 0 63) 1 10) ≡ 63 ∷ 10 ∷ []
-asked [] l = absurd (omega arith)
-asked (a ∷ []) l = absurd (omega arith)
-asked (a ∷ b ∷ text) l = refl
 
 -- ---- the numbers
 
@@ -59,23 +52,39 @@ text_long [] = omega arith
 text_long (n ∷ []) = simp length-append (omega (arith, decimal_long n))
 text_long (n ∷ m ∷ ns) = simp length-append (omega (arith, decimal_long n, text_long (m ∷ ns)))
 
-pub worded_none : (ns : List ℕ) → length ns ≡ 0 → worded ns ≡ 63 ∷ 10 ∷ []
-unfolding worded
-worded_none [] e = refl
-worded_none (n ∷ ns) e = absurd (omega arith)
-
 worded_some : (ns : List ℕ) → 0 < length ns → worded ns ≡ text_of ns
 unfolding worded
 worded_some [] l = absurd (omega arith)
 worded_some (n ∷ ns) l = refl
 
-pub text_put : (ns old out : List ℕ) (r : ℕ) → 0 < length ns → length ns * 11 ≤ length old
+text_put : (ns old out : List ℕ) (r : ℕ) → 0 < length ns → length ns * 11 ≤ length old
     → r ≡ min (length (text_of ns)) (length old) → out ≡ overlaid 0 (text_of ns) old → (take r out ≡ worded ns) × (r ≡ length (worded ns))
 text_put ns old out r some room e f =
     let all : length (text_of ns) ≤ length old = omega (arith, text_long ns) in
     let long : r ≡ length (text_of ns) = omega arith in
     let is = worded_some ns some in (rw (long, f, is) (over_front (text_of ns) old all), long ∙ sym (ap length is))
 
--- the same text
-pub same_text : (k : Kept) {s t : List ℕ} → s ≡ t → ◌≡◌ {A = Written} (record { text = s; kept = k }) (record { text = t; kept = k })
-same_text k e = rw e
+-- the numbers told, and the words behind them, as text
+module _ (ts ws old one two : List ℕ) (r : ℕ) (some : 0 < length ts) (room : length ts + length ws ≤ length old)
+    (e : one ≡ overlaid 0 ts old) (f : two ≡ overlaid (length ts) ws one) (g : r ≡ behind (length ts) ws one) where
+  put : take r two ≡ ts ++ ws
+  put = both_put ts ws old one two (length ts) r (omega arith) room e f g ∙ rw (take_all (length ts) ts (omega arith))
+
+  long : length (ts ++ ws) ≡ length ts + length ws
+  long = length-append ts ws
+
+  pub put_room : r ≤ length two
+  unfolding behind
+  put_room =
+      let l : length two ≡ length one = rw f (length_over (length ts) ws one) in
+      let m : length one ≡ length old = rw e (length_over 0 ts old) in
+      omega (arith, l, m, g)
+
+  pub put_text : (text out : List ℕ) (c : ℕ) → (length ts + length ws) * 11 ≤ length text → c ≡ min (length (text_of (take r two))) (length text)
+      → out ≡ overlaid 0 (text_of (take r two)) text → (take c out ≡ worded (ts ++ ws)) × (c ≡ length (worded (ts ++ ws)))
+  put_text text out c big h i = text_put (ts ++ ws) text out c (omega (arith, long)) (rw long big) (rw put at h) (rw put at i)
+
+-- how much they are
+pub fits_told : (ts ws told tables : List ℕ) (shown : ℕ) → ts ≡ told → ws ≡ take shown tables → 0 < length told → length told ≤ 9 → shown ≤ 8192
+    → (0 < length ts) × (length ts + length ws ≤ 8201)
+fits_told ts ws told tables shown e f some few short = rw (e, f, length-take shown tables) (some, omega arith)

@@ -1,133 +1,119 @@
 // The calls of a session.
-ghost use Rattle.std.specs.Prelude.{◌≡◌, ◌∷◌};
+ghost use Rattle.std.specs.Prelude.{◌≡◌, ◌+◌, ◌∷◌};
 ghost use Rattle.table.specs.Limits.{base};
-ghost use Rattle.orders.specs.Orders.{freshened, handed, sent, received, sending, receiving, is_call, call_order};
+ghost use Rattle.session.specs.Results.{answered, delivered};
+ghost use Rattle.orders.specs.Orders.{awaited, awaited_in, sent, received, call_order};
 ghost use Rattle.orders.specs.Lines.{keeps};
-ghost use Rattle.orders.specs.mirror.Said.{Says};
+ghost use Rattle.orders.specs.mirror.Said.{Says, Replies};
 
+use crate::read;
 use crate::run::{Run, Said, TOLD, Told};
-use crate::{read, run};
-use session::{Answer, Session};
+use session::{Answer, Awaited, Message, Session};
 
 // A number, and every role's head.
 fn heads_told(number: u8, heads: [u16; Session::ROLES]) -> Told
-    ensures { result ≡ number ∷ heads }
+    ensures { (result.numbers ≡ number ∷ heads) × (result.count ≡ base.roles + 1) }
 {
-    let mut told = [0u32; TOLD];
-    told[0] = number as u32;
-    lines::wide(&heads, &mut told, 1);
+    let mut told = Told {
+        numbers: [0; TOLD],
+        count: TOLD,
+    };
+    told.numbers[0] = u32::from(number);
+    lines::wide(&heads, &mut told.numbers, 1);
     told
 }
 
-// `f`
-fn fresh(run: Run, words: &[u16]) -> Said
-    ensures { Says result words.now (freshened base (keeps run words.now)) }
+// Who is awaited in that state: the set, how many they are, and the lowest.
+fn waiting(run: Run, state: Session, words: &[u16]) -> [u32; 3]
+    ensures { result ≡ awaited (awaited_in base (keeps run words.now) state) }
 {
-    let answer = Session::fresh(read::first(words, run.words), run.roles);
+    let answer = state.awaited(run.tables(words), run.roles);
+    let roles = answer.result.unwrap_or(Awaited::NOBODY);
+    [u32::from(roles.set), roles.count(), roles.lowest()]
+}
+
+// `f`
+pub fn fresh(run: Run, numbers: &[u32], words: &[u16]) -> Option<Said>
+    ensures { Replies result run words.now words.now (call_order base (keeps run words.now) 102 numbers.now) }
+{
+    if !numbers.is_empty() {
+        return None;
+    }
+    let answer = Session::fresh(run.tables(words), run.roles);
     let state = answer.state;
-    let heads = state.heads;
-    run::called(run, TOLD, heads_told(answer.number, heads), state)
+    Some(run.called(heads_told(answer.number(), state.heads), state))
 }
 
 // `h` and the numbers of a state
-fn hand(run: Run, state: Session, words: &[u16]) -> Said
-    ensures { Says result words.now (handed base (keeps run words.now) state) }
+pub fn hand(run: Run, numbers: &[u32], words: &[u16]) -> Option<Said>
+    ensures { Replies result run words.now words.now (call_order base (keeps run words.now) 104 numbers.now) }
 {
-    let waiting = state.awaited(read::first(words, run.words), run.roles);
-    let mut told = [0u32; TOLD];
-    told[0] = waiting.number as u32;
-    told[1] = waiting.set as u32;
-    told[2] = waiting.count;
-    told[3] = waiting.lowest;
-    run::called(run, 4, told, state)
+    let state = read::state_of(numbers)?;
+    let answer = state.awaited(run.tables(words), run.roles);
+    let number = u32::from(answer.number());
+    let [set, count, lowest] = waiting(run, state, words);
+    Some(run.called(Told::of(&[number, set, count, lowest]), state))
 }
 
 // A send's number, what it offers, and the awaited roles after it.
-fn sent(run: Run, answer: Answer, words: &[u16]) -> Said
-    ensures { Says result words.now (sent base (keeps run words.now) answer) }
+fn sent(run: Run, answer: Answer<()>, words: &[u16]) -> Said
+    ensures { Says result words.now (sent base (keeps run words.now) (answered base answer)) }
 {
+    let number = u32::from(answer.number());
+    let offered = u32::from(answer.offered());
     let after = answer.state;
-    let waiting = after.awaited(read::first(words, run.words), run.roles);
-    let mut told = [0u32; TOLD];
-    told[0] = answer.number as u32;
-    told[1] = answer.offered as u32;
-    told[2] = waiting.set as u32;
-    told[3] = waiting.count;
-    told[4] = waiting.lowest;
-    run::called(run, 5, told, after)
+    let [set, count, lowest] = waiting(run, after, words);
+    run.called(Told::of(&[number, offered, set, count, lowest]), after)
 }
 
 // `s SENDER RECEIVER LABEL PAYLOAD`
-fn send(run: Run, numbers: &[u32], words: &[u16]) -> Said
-    ensures { Says result words.now (sent base (keeps run words.now) (sending base (keeps run words.now) numbers.now)) }
+pub fn send(run: Run, numbers: &[u32], words: &[u16]) -> Option<Said>
+    ensures { Replies result run words.now words.now (call_order base (keeps run words.now) 115 numbers.now) }
 {
+    let &[sender, receiver, label, payload] = numbers else {
+        return None;
+    };
     let state = run.state;
     let answer = state.send(
-        read::first(words, run.words),
+        run.tables(words),
         run.roles,
-        read::size(numbers, 0),
-        read::size(numbers, 1),
-        read::size(numbers, 2),
-        read::number(numbers, 3),
+        sender as usize,
+        receiver as usize,
+        label as usize,
+        payload,
     );
-    sent(run, answer, words)
+    Some(sent(run, answer, words))
 }
 
-// A receive's number and message, what it offers, and the awaited roles after it.
-fn received(run: Run, answer: Answer, words: &[u16]) -> Said
-    ensures { Says result words.now (received base (keeps run words.now) answer) }
+// A receive's number and message, what it offers, and the awaited roles after it. A refused one has the message 0 0.
+fn received(run: Run, answer: Answer<Message>, words: &[u16]) -> Said
+    ensures { Says result words.now (received base (keeps run words.now) (delivered base answer)) }
 {
+    let number = u32::from(answer.number());
+    let offered = u32::from(answer.offered());
+    let message = answer.result.unwrap_or(Message { label: 0, payload: 0 });
     let state = answer.state;
-    let waiting = state.awaited(read::first(words, run.words), run.roles);
-    let mut told = [0u32; TOLD];
-    told[0] = answer.number as u32;
-    told[1] = answer.label as u32;
-    told[2] = answer.payload;
-    told[3] = answer.offered as u32;
-    told[4] = waiting.set as u32;
-    told[5] = waiting.count;
-    told[6] = waiting.lowest;
-    run::called(run, 7, told, state)
+    let [set, count, lowest] = waiting(run, state, words);
+    let label = u32::from(message.label);
+    run.called(
+        Told::of(&[number, label, message.payload, offered, set, count, lowest]),
+        state,
+    )
 }
 
 // `r SENDER RECEIVER`
-fn receive(run: Run, numbers: &[u32], words: &[u16]) -> Said
-    ensures { Says result words.now (received base (keeps run words.now) (receiving base (keeps run words.now) numbers.now)) }
+pub fn receive(run: Run, numbers: &[u32], words: &[u16]) -> Option<Said>
+    ensures { Replies result run words.now words.now (call_order base (keeps run words.now) 114 numbers.now) }
 {
+    let &[sender, receiver] = numbers else {
+        return None;
+    };
     let state = run.state;
     let answer = state.receive(
-        read::first(words, run.words),
+        run.tables(words),
         run.roles,
-        read::size(numbers, 0),
-        read::size(numbers, 1),
+        sender as usize,
+        receiver as usize,
     );
-    received(run, answer, words)
-}
-
-// The line is a call, with as many numbers as it has.
-fn is_call(letter: u8, numbers: &[u32]) -> bool
-    ensures { result ≡ is_call base letter numbers.now }
-{
-    match letter {
-        b'f' => numbers.len() == 0,
-        b'h' => read::is_state(numbers),
-        b's' => numbers.len() == 4,
-        b'r' => numbers.len() == 2,
-        _ => false,
-    }
-}
-
-// The call with that letter and those numbers.
-pub fn call(letter: u8, run: Run, numbers: &[u32], words: &[u16]) -> Said
-    ensures { Says result words.now (call_order base (keeps run words.now) letter numbers.now) }
-{
-    if !is_call(letter, numbers) {
-        return run::malformed(run);
-    }
-    match letter {
-        b'f' => fresh(run, words),
-        b'h' => hand(run, read::state_of(numbers), words),
-        b's' => send(run, numbers, words),
-        _ => receive(run, numbers, words),
-    }
+    Some(received(run, answer, words))
 }

@@ -7,55 +7,40 @@ mod run;
 mod shown;
 mod tables;
 
-ghost use Rattle.std.specs.Prelude.{◌≡◌, cond, [], ◌≤◌, length, get_or, take};
+ghost use Rattle.std.specs.Prelude.{◌≡◌, ◌≤◌, length};
 ghost use Rattle.table.specs.Limits.{base};
-ghost use Rattle.lines.specs.Line.{numbers_of};
 ghost use Rattle.orders.specs.Orders.{order_of};
-ghost use Rattle.orders.specs.Lines.{is_line, keeps, Answers};
-ghost use Rattle.orders.specs.mirror.Said.{Says};
+ghost use Rattle.orders.specs.Lines.{keeps, reply_to, Answers};
+ghost use Rattle.orders.specs.mirror.Said.{Replies};
 
-use lines::Count;
 use run::Said;
 pub use run::{Answered, LONGEST, Numbers, Run, TEXT, Text, Words, start};
 
-// The letter of a line and how many numbers it has. No order has the letter 0, which stands for a line that is malformed.
-#[derive(Clone, Copy)]
-struct Given {
-    letter: u8,
-    count: usize,
-}
-
-// The line is taken apart, and its numbers stored.
-fn split_line(line: &[u8], numbers: &mut [u32]) -> Given
-    requires { length numbers.old ≡ 65536 }
-    ensures { (result.letter ≡ cond (is_line line.now) (get_or line.now 0 0) 0)
-        × (take result.count numbers.new ≡ cond (is_line line.now) (numbers_of line.now) []) }
-{
-    let count = lines::numbers(line, numbers);
-    match count {
-        Count::Malformed => Given {
-            letter: 0,
-            count: 0,
-        },
-        Count::Of(count) => Given {
-            letter: read::letter(line),
-            count: count,
-        },
-    }
-}
-
-// The order with that letter and those numbers.
-fn order(letter: u8, run: Run, numbers: &[u32], tables: &mut [u16]) -> Said
+// The order with that letter and those numbers; none for a letter that no order has, or where the numbers are not that order's.
+#[tactic(auto, unfolding(crate::specs::Orders::order_of))]
+fn order(letter: u8, run: Run, numbers: &[u32], tables: &mut [u16]) -> Option<Said>
     requires { (length tables.old ≡ 65536) × (length numbers.now ≤ 65536) }
-    ensures { Says result tables.new (order_of base (keeps run tables.old) letter numbers.now) }
+    ensures { Replies result run tables.old tables.new (order_of base (keeps run tables.old) letter numbers.now) }
 {
-    if letter == b'o' {
-        return tables::open(run, numbers, tables);
+    match letter {
+        b'o' => tables::open(run, numbers, tables),
+        b't' => tables::set(run, numbers, tables),
+        b'f' => calls::fresh(run, numbers, tables),
+        b'h' => calls::hand(run, numbers, tables),
+        b's' => calls::send(run, numbers, tables),
+        b'r' => calls::receive(run, numbers, tables),
+        _ => None,
     }
-    if letter == b't' {
-        return tables::set(run, numbers, tables);
-    }
-    calls::call(letter, run, numbers, tables)
+}
+
+// The order that a line is; none for a malformed line.
+fn obey(run: Run, line: &[u8], numbers: &mut [u32], tables: &mut [u16]) -> Option<Said>
+    requires { (length numbers.old ≡ 65536) × (length tables.old ≡ 65536) }
+    ensures { Replies result run tables.old tables.new (reply_to base (keeps run tables.old) line.now) }
+{
+    let count = lines::numbers(line, numbers)?;
+    let letter = line.first()?;
+    order(*letter, run, lines::cut(numbers, count), tables)
 }
 
 // The answer to the line is the text's first bytes; a malformed line is answered `?` and changes nothing.
@@ -68,7 +53,14 @@ pub fn answer(
 ) -> Answered
     ensures { Answers base run tables.old line.now result tables.new text.new }
 {
-    let given = split_line(line, numbers);
-    let said = order(given.letter, run, read::upto(numbers, given.count), tables);
-    shown::show(said, tables, text)
+    match obey(run, line, numbers, tables) {
+        Some(said) => Answered {
+            length: shown::write(&said, tables, text),
+            run: said.run,
+        },
+        None => Answered {
+            length: shown::ask(text),
+            run,
+        },
+    }
 }

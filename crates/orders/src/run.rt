@@ -1,8 +1,8 @@
 // What is kept from line to line beside the words of the tables, and what an order leaves.
-ghost use Rattle.std.specs.Prelude.{◌≡◌};
+ghost use Rattle.std.specs.Prelude.{◌≡◌, ◌≤◌, length, take};
 ghost use Rattle.table.specs.Limits.{base};
 ghost use Rattle.orders.specs.Lines.{Starts};
-ghost use Rattle.orders.specs.mirror.Said.{said_nothing, said_of};
+ghost use Rattle.orders.specs.mirror.Said.{most_told, tells, said_of};
 
 use session::Session;
 use table::Table;
@@ -20,8 +20,6 @@ pub const BLOCKS: usize = Table::ROLES * Table::ROWS * 4;
 // The most numbers of an answer before the words of an opening: a number, and every role's head.
 pub const TOLD: usize = 1 + Session::ROLES;
 
-pub type Told = [u32; TOLD];
-
 // The most numbers of an answer.
 pub const ANSWER: usize = TOLD + BLOCKS;
 
@@ -31,26 +29,30 @@ pub const TEXT: usize = ANSWER * 11;
 pub type Text = [u8; TEXT];
 
 // How many roles, how many words of tables, the state.
-#[derive(Clone, Copy)]
+#[derive(Clone, Copy, Debug, PartialEq, Eq)]
 pub struct Run {
     pub roles: usize,
     pub words: usize,
     pub state: Session,
 }
 
-// The answer of an order: how many numbers it has (0 for a line that is malformed), those numbers, how many words of the tables follow; and the run after it.
-#[derive(Clone, Copy)]
-pub struct Said {
+// The numbers that an order tells before the words of an opening: the first `count`.
+#[derive(Clone, Copy, Debug, PartialEq, Eq)]
+pub struct Told {
+    pub numbers: [u32; TOLD],
     pub count: usize,
+}
+
+// The answer of an order: the numbers that it tells, how many words of the tables follow; and the run after it.
+#[derive(Clone, Copy, Debug, PartialEq, Eq)]
+pub struct Said {
     pub told: Told,
     pub shown: usize,
-    pub roles: usize,
-    pub words: usize,
-    pub state: Session,
+    pub run: Run,
 }
 
 // How many bytes of text answer a line, and the run after it.
-#[derive(Clone, Copy)]
+#[derive(Clone, Copy, Debug, PartialEq, Eq)]
 pub struct Answered {
     pub length: usize,
     pub run: Run,
@@ -59,44 +61,55 @@ pub struct Answered {
 pub fn start() -> Run
     ensures { Starts base result }
 {
-    let state = Session {
-        heads: [0u16; Session::ROLES],
-        counts: [0u8; Session::PAIRS],
-        labels: [0u8; Session::SLOTS],
-        payloads: [0u32; Session::SLOTS],
-    };
     Run {
         roles: 0,
         words: 0,
-        state: state,
+        state: Session {
+            heads: [0; Session::ROLES],
+            counts: [0; Session::PAIRS],
+            labels: [0; Session::SLOTS],
+            payloads: [0; Session::SLOTS],
+        },
     }
 }
 
-// A malformed line is answered without a number, and changes nothing.
-pub fn malformed(run: Run) -> Said
-    ensures { result ≡ said_nothing run }
-{
-    let state = run.state;
-    Said {
-        count: 0,
-        told: [0u32; TOLD],
-        shown: 0,
-        roles: run.roles,
-        words: run.words,
-        state: state,
+impl Run {
+    // The tables: the first words.
+    pub fn tables<'a>(&self, words: &'a [u16]) -> &'a [u16]
+        ensures { result.now ≡ take self.now.words words.now }
+    {
+        lines::cut(words, self.words)
+    }
+
+    // A call is answered with numbers alone, and leaves the tables and that state.
+    pub fn called(self, told: Told, state: Session) -> Said
+        ensures { result ≡ said_of self told state }
+    {
+        Said {
+            told,
+            shown: 0,
+            run: Run { state, ..self },
+        }
     }
 }
 
-// The first `count` numbers told answer a call, which leaves the tables and that state.
-pub fn called(run: Run, count: usize, told: Told, state: Session) -> Said
-    ensures { result ≡ said_of run count told state }
-{
-    Said {
-        count: count,
-        told: told,
-        shown: 0,
-        roles: run.roles,
-        words: run.words,
-        state: state,
+impl Told {
+    // These numbers.
+    pub fn of(numbers: &[u32]) -> Told
+        requires { length numbers.now ≤ most_told base }
+        ensures { tells result ≡ numbers.now }
+    {
+        let mut told = [0u32; TOLD];
+        lines::copy(numbers, &mut told);
+        Told {
+            numbers: told,
+            count: numbers.len(),
+        }
+    }
+
+    pub fn as_slice(&self) -> &[u32]
+        ensures { result.now ≡ tells self.now }
+    {
+        lines::cut(&self.numbers, self.count)
     }
 }

@@ -2,13 +2,11 @@
 ghost use Rattle.std.specs.Prelude.{◌≡◌, cond, [], ◌∷◌, ◌*◌, ◌<◌, ◌≤◌, eqb, length, take};
 ghost use Rattle.table.specs.Limits.{base};
 ghost use Rattle.opening.specs.Opening.{open_of, blocks};
-ghost use Rattle.session.specs.Calls.{fresh_of};
-ghost use Rattle.orders.specs.Orders.{opened, open_order, table_order};
+ghost use Rattle.orders.specs.Orders.{opened, tabled, open_order, table_order};
 ghost use Rattle.orders.specs.Lines.{keeps};
-ghost use Rattle.orders.specs.mirror.Said.{Says, most_shown, padded, said_over};
+ghost use Rattle.orders.specs.mirror.Said.{Says, Replies};
 
-use crate::run::{BLOCKS, LONGEST, Run, Said, TOLD};
-use crate::{read, run};
+use crate::run::{BLOCKS, LONGEST, Run, Said, Told};
 use session::Session;
 use table::Verdict;
 
@@ -20,108 +18,62 @@ fn lend(table: &[u16], roles: usize, room: usize, tables: &mut [u16]) -> Verdict
     ensures { (result ≡ open_of base table.now roles room)
         × (result.number ≡ 0 → take (roles * length table.now) tables.new ≡ blocks table.now roles) }
 {
-    let lent = lines::cut_words(tables, lines::least(room, BLOCKS));
+    let lent = room.min(BLOCKS);
     opening::open(table, roles, &mut tables[..lent])
 }
 
-// How many words an opening wrote.
-fn written(number: u8, roles: usize, length: usize) -> usize
-    requires { number ≡ 0 → roles * length ≤ most_shown base }
-    ensures { result ≡ cond (eqb number 0) (roles * length) 0 }
-{
-    if number == Verdict::ACCEPTED {
-        return roles * length;
-    }
-    0
-}
-
-// The answer of an opening. Refused, it leaves no tables.
-fn opened(run: Run, verdict: Verdict, roles: usize, words: usize) -> Said
-    requires { verdict.place < 65536 }
-    ensures { result ≡ said_over run 2 (padded (verdict.number ∷ verdict.place ∷ [])) words roles words }
-{
-    let mut told = [0u32; TOLD];
-    told[0] = verdict.number as u32;
-    told[1] = verdict.place as u32;
-    let state = run.state;
-    Said {
-        count: 2,
-        told: told,
-        shown: words,
-        roles: roles,
-        words: words,
-        state: state,
-    }
-}
-
+// Refused, an opening leaves no tables.
 fn open_table(run: Run, table: &[u16], roles: usize, room: usize, tables: &mut [u16]) -> Said
     requires { length tables.old ≡ 65536 }
     ensures { Says result tables.new (opened base (keeps run tables.old) roles room table.now) }
 {
     let verdict = lend(table, roles, room, tables);
-    opened(
-        run,
-        verdict,
-        roles,
-        written(verdict.number, roles, table.len()),
-    )
+    let words = if verdict.number == Verdict::ACCEPTED {
+        roles * table.len()
+    } else {
+        0
+    };
+    Said {
+        told: Told::of(&[u32::from(verdict.number), verdict.place as u32]),
+        shown: words,
+        run: Run { roles, words, ..run },
+    }
 }
 
 // `o ROLES ROOM WORD...`
-pub fn open(run: Run, numbers: &[u32], tables: &mut [u16]) -> Said
+pub fn open(run: Run, numbers: &[u32], tables: &mut [u16]) -> Option<Said>
     requires { (length tables.old ≡ 65536) × (length numbers.now ≤ 65536) }
-    ensures { Says result tables.new (open_order base (keeps run tables.old) numbers.now) }
+    ensures { Replies result run tables.old tables.new (open_order base (keeps run tables.old) numbers.now) }
 {
     let mut words = [0u16; LONGEST];
-    if numbers.len() < 2 {
-        return run::malformed(run);
+    let [roles, room, table @ ..] = numbers else {
+        return None;
+    };
+    if !lines::narrow(table, &mut words) {
+        return None;
     }
-    let table = read::behind(numbers, 2);
-    if !lines::words(table, &mut words) {
-        return run::malformed(run);
-    }
-    open_table(
-        run,
-        read::first(&words, table.len()),
-        read::size(numbers, 0),
-        read::size(numbers, 1),
-        tables,
-    )
-}
-
-// The answer to tables that are set.
-fn set_to(run: Run, roles: usize, words: &[u16]) -> Said
-    ensures { result ≡ said_over run 1 (padded ((fresh_of base words.now roles).number ∷ [])) 0 roles (length words.now) }
-{
-    let fresh = Session::fresh(words, roles);
-    let mut told = [0u32; TOLD];
-    told[0] = fresh.number as u32;
-    let state = run.state;
-    Said {
-        count: 1,
-        told: told,
-        shown: 0,
-        roles: roles,
-        words: words.len(),
-        state: state,
-    }
+    let table = lines::cut(&words, table.len());
+    Some(open_table(run, table, *roles as usize, *room as usize, tables))
 }
 
 // `t ROLES WORD...`
-pub fn set(run: Run, numbers: &[u32], tables: &mut [u16]) -> Said
+pub fn set(run: Run, numbers: &[u32], tables: &mut [u16]) -> Option<Said>
     requires { (length tables.old ≡ 65536) × (length numbers.now ≤ 65536) }
-    ensures { Says result tables.new (table_order base (keeps run tables.old) numbers.now) }
+    ensures { Replies result run tables.old tables.new (table_order base (keeps run tables.old) numbers.now) }
 {
-    if numbers.len() == 0 {
-        return run::malformed(run);
+    let (roles, words) = numbers.split_first()?;
+    let roles = *roles as usize;
+    if !lines::narrow(words, tables) {
+        return None;
     }
-    let words = read::behind(numbers, 1);
-    if !lines::words(words, tables) {
-        return run::malformed(run);
-    }
-    set_to(
-        run,
-        read::size(numbers, 0),
-        read::first(tables, words.len()),
-    )
+    let fresh = Session::fresh(lines::cut(tables, words.len()), roles);
+    Some(Said {
+        told: Told::of(&[u32::from(fresh.number())]),
+        shown: 0,
+        run: Run {
+            roles,
+            words: words.len(),
+            ..run
+        },
+    })
 }

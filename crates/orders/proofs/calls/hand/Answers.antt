@@ -1,9 +1,16 @@
 -- `orders::calls::hand` meets its contract. Assumes nothing.
-use native.Mathlib.Omega.{arith}
-use Rattle.orders.proofs.Replies.{told, hand_reply}
+use mathlib.Core.Path.{refl, sym, ◌∙◌}
+use Rattle.table.specs.Limits.{base}
+use Rattle.session.specs.Results.{told}
+use Rattle.orders.proofs.Replies.{call_hand, no_hand, none_of, some_of, hand_said}
 use Rattle.orders.proofs.calls.hand.Goals as goal
+
+pub returns-in_err-state : goal.returns-in_err-state
+returns-in_err-state c = rw c.from_residual.ensures (no_hand _ _ (none_of _ _ c.in_err-state.ensures), refl)
 
 pub returns : goal.returns
 returns c =
-    let a = c.args in
-    told c.called.ensures (omega arith) (omega arith) (hand_reply a.run a.words.now _ a.state c.awaited-waiting.result c.first.ensures c.awaited-waiting.ensures)
+    let state = some_of _ _ _ c.in_ok-state.ensures in
+    let number = c.from-number.ensures ∙ c.number.ensures in
+    rw (call_hand _ _ state.0, ← (state.1))
+    (hand_said _ _ _ _ _ _ _ (told base c.awaited-answer.result) c.awaited-answer.ensures c.tables.ensures number c.waiting.ensures c.of.ensures c.called.ensures)

@@ -1,9 +1,12 @@
 -- `orders::calls::received` meets its contract. Assumes nothing.
-use native.Mathlib.Omega.{arith}
-use Rattle.orders.proofs.Replies.{told, received_reply}
+use mathlib.Core.Path.{◌∙◌}
+use Rattle.table.specs.Limits.{base}
+use Rattle.session.specs.Results.{delivered}
+use Rattle.orders.proofs.Replies.{received_said, message_in}
 use Rattle.orders.proofs.calls.received.Goals as goal
 
 pub returns : goal.returns
 returns c =
-    let a = c.args in
-    told c.called.ensures (omega arith) (omega arith) (received_reply a.run a.words.now _ a.answer c.awaited-waiting.result c.first.ensures c.awaited-waiting.ensures)
+    let message = message_in c.args.answer.result _ c.unwrap_or-message.ensures in
+    received_said _ _ _ _ (delivered base c.args.answer) _ _ _ _ (c.from-number.ensures ∙ c.number.ensures) (c.from-label.ensures ∙ message.0) message.1
+      (c.from-offered.ensures ∙ c.offered.ensures) c.waiting.ensures c.of.ensures c.called.ensures

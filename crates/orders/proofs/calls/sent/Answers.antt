@@ -1,9 +1,10 @@
 -- `orders::calls::sent` meets its contract. Assumes nothing.
-use native.Mathlib.Omega.{arith}
-use Rattle.orders.proofs.Replies.{told, sent_reply}
+use mathlib.Core.Path.{◌∙◌}
+use Rattle.table.specs.Limits.{base}
+use Rattle.session.specs.Results.{answered}
+use Rattle.orders.proofs.Replies.{sent_said}
 use Rattle.orders.proofs.calls.sent.Goals as goal
 
 pub returns : goal.returns
 returns c =
-    let a = c.args in
-    told c.called.ensures (omega arith) (omega arith) (sent_reply a.run a.words.now _ a.answer c.awaited-waiting.result c.first.ensures c.awaited-waiting.ensures)
+    sent_said _ _ _ _ (answered base c.args.answer) _ _ (c.from-number.ensures ∙ c.number.ensures) (c.from-offered.ensures ∙ c.offered.ensures) c.waiting.ensures c.of.ensures c.called.ensures

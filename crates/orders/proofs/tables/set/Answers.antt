@@ -1,23 +1,27 @@
 -- `orders::tables::set` meets its contract. Assumes nothing.
-use native.Mathlib.Omega.{arith}
-use mathlib.Core.Path.{sym, ◌∙◌}
 use Prim.Native.Nat.{◌≤◌}
-use lib.ListN.{length}
-use Rattle.orders.proofs.Replies.{told_nothing}
+use mathlib.Core.Path.{◌≡◌, refl, sym, ◌∙◌}
+use native.Mathlib.Omega.{arith}
+use lib.ListN.{length, drop}
+use Rattle.table.specs.Limits.{base}
+use Rattle.session.specs.Results.{answered}
+use Rattle.orders.specs.Orders.{number}
 use Rattle.orders.proofs.Settings.{set_short, set_wide, set_told}
 use Rattle.orders.proofs.tables.set.Goals as goal
 
-pub returns-then-numbers-eq0 : goal.returns-then-numbers-eq0
-returns-then-numbers-eq0 c = told_nothing _ _ c.malformed.ensures (set_short _ _ c.if-numbers-eq0.true)
+pub returns-in_err-roles : goal.returns-in_err-roles
+returns-in_err-roles c = rw c.from_residual.ensures (set_short _ _ c.in_err-roles.ensures.cases, refl)
 
-pub returns-then-not-words : goal.returns-then-not-words
-returns-then-not-words c =
-    let one : 1 ≤ length c.args.numbers.now = omega (arith, c.if-numbers-eq0.false) in
-    let words = c.words.ensures in
-    set_wide _ _ _ one c.behind-words.ensures words.1 c.requires.1 c.requires.0 (sym words.0 ∙ c.if-not-words.true) c.malformed-then-not-words.ensures
+pub returns-then-not-narrow : goal.returns-then-not-narrow
+returns-then-not-narrow c =
+    let split = c.in_ok-roles.ensures.cases in
+    let behind : c.in_ok-roles.words.now ≡ drop 1 c.args.numbers.now = rw split.0 in
+    set_wide c.args.run c.args.numbers.now c.args.tables.now (omega (arith, split.1)) behind c.narrow.ensures.1 c.requires.1 c.requires.0 (sym c.narrow.ensures.0 ∙ c.if-not-narrow.true)
 
 pub returns : goal.returns
 returns c =
-    let one : 1 ≤ length c.args.numbers.now = omega (arith, c.if-numbers-eq0.false) in
-    let words = c.words.ensures in
-    set_told c.args.run c.args.numbers.now c.args.tables.now one c.behind-words.ensures words.1 (sym words.0 ∙ c.if-not-words.false) c.first.ensures c.size.ensures c.set_to.ensures
+    let split = c.in_ok-roles.ensures.cases in
+    let behind : c.in_ok-roles.words.now ≡ drop 1 c.args.numbers.now = rw split.0 in
+    let roles : c.in_ok-roles.roles.now ≡ number c.args.numbers.now 0 = rw split.0 in
+    set_told c.args.run c.args.numbers.now c.args.tables.now (omega (arith, split.1)) behind c.narrow.ensures.1 c.of.result
+      (sym c.narrow.ensures.0 ∙ c.if-not-narrow.false) c.cut.ensures.items roles (c.from.ensures ∙ (c.number.ensures ∙ rw (← c.fresh-fresh.ensures))) c.of.ensures refl
