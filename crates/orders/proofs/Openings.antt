@@ -9,6 +9,8 @@ use lib.Dec.{ltb}
 use lib.ListN.{length, take, drop, length-append, length-drop}
 use lib.Seq.{take-append-le, take_at}
 use borrow.Author.Tests.{lt-ltb, le-ltb, ltb-true, ltb-false, eq-eqb}
+use Rattle.std.proofs.Common.{Result, Ok, Err, OnOk}
+use Rattle.std.specs.Bool.{⊤}
 use Rattle.words.specs.Below.{lowest}
 use Rattle.words.specs.Rows.{rows_of}
 use Rattle.words.proofs.Below.{lowest_le}
@@ -17,6 +19,8 @@ use Rattle.table.specs.Numbers.{WORDS, ROLES, ROOM, NOPART}
 use Rattle.table.specs.Rules.{Rule, rules, number, breaks, words_broken, roles_broken}
 use Rattle.table.specs.Check.{says, accepted, refused_at, tested}
 use Rattle.table.specs.Check.{Verdict}
+use Rattle.table.specs.Refusals.{verdict_of}
+use Rattle.table.specs.declared.refusal.Refusal.{Refusal}
 use Rattle.table.proofs.Sizes.{Sized, measured}
 use Rattle.parts.specs.Projection.{part_of, present}
 use Rattle.opening.specs.Opening.{open_of, blocks, room_of}
@@ -130,3 +134,8 @@ module _ (t room₀ out : List ℕ) (roles room : ℕ) (v : Verdict) (e : v ≡ 
     lent_blocks rest =
         let inside : roles * length t ≤ length out = omega (arith, same, fits t roles (length room₀) opens) in
         take-append-le (roles * length t) out rest inside ∙ rw filled (take_at (blocks t roles) (drop (roles * length t) room₀) (roles * length t) long)
+
+-- what holds of an opening whose number is 0 holds where it is accepted
+pub on_accepted : {P : Type 0} (r : Result ⊤ Refusal) → ((verdict_of r).number ≡ 0 → P) → OnOk r P
+on_accepted (Ok u) f = f refl
+on_accepted (Err e) f = tt

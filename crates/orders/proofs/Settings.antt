@@ -6,10 +6,13 @@ use mathlib.Core.Path.{◌≡◌, refl, sym, ◌∙◌, ap}
 use native.Mathlib.Omega.{arith}
 use lib.Dec.{leb, eqb}
 use lib.ListN.{length, take, drop, replicate, length-drop}
-use borrow.Author.Tests.{le-leb, lt-leb, leb-true, eqb-true}
+use borrow.Author.Tests.{le-leb, lt-leb, leb-true, ne_eqb}
 use Rattle.words.proofs.Below.{and_both}
 use Rattle.table.specs.Limits.{base}
-use Rattle.table.specs.Check.{Verdict}
+use Rattle.table.specs.Check.{Verdict, accepted, says as refusal_says}
+use Rattle.table.specs.Refusals.{number_of}
+use Rattle.table.specs.declared.refusal.Rule.{Rule}
+use Rattle.table.specs.declared.refusal.Rule.TheVariants.{Words, Roles, Room, Kind, Field, Link, Named, Twice, Unbound, Unguarded, NoPart}
 use Rattle.opening.specs.Opening.{open_of, blocks}
 use Rattle.session.specs.Calls.{fresh_of}
 use Rattle.lines.specs.Over.{all_below, fits, narrowed}
@@ -67,31 +70,35 @@ module _ (k : Kept) (ns : List ℕ) where
         let same : tab ≡ drop 2 ns = h ∙ (rw g (words_read ws old f) ∙ e) in
         rw (le-leb 2 (length ns) l, all, ← same, ← i, ← j) said
 
--- the words that an opening wrote
-module _ (t ts : List ℕ) (roles words : ℕ) (v : Verdict) (w : words ≡ cond (eqb v.number 0) (roles * length t) 0) where
-  shown : (v.number ≡ 0 → take (roles * length t) ts ≡ blocks t roles) → take words ts ≡ cond (eqb v.number 0) (blocks t roles) []
-  shown f = by (eqb v.number 0) refl w
-    where
-      by : (b : Bool) → eqb v.number 0 ≡ b → words ≡ cond b (roles * length t) 0 → take words ts ≡ cond b (blocks t roles) []
-      by true e g = rw g (f (eqb-true v.number 0 e))
-      by false e g = rw g
-
-  short : (v.number ≡ 0 → roles * length t ≤ 8192) → words ≤ 8192
-  short f = by (eqb v.number 0) refl w
-    where
-      by : (b : Bool) → eqb v.number 0 ≡ b → words ≡ cond b (roles * length t) 0 → words ≤ 8192
-      by true e g = omega (arith, g, f (eqb-true v.number 0 e))
-      by false e g = omega arith
-
--- an opening's verdict and its words
-pub open_said : {s : Said} (run : Run) (told : Told) (t before after : List ℕ) (roles room words : ℕ) (v : Verdict)
-    → s ≡ said_over run told words roles words → tells told ≡ v.number ∷ v.place ∷ [] → words ≡ cond (eqb v.number 0) (roles * length t) 0
-    → v ≡ open_of base t roles room → (v.number ≡ 0 → take (roles * length t) after ≡ blocks t roles)
+-- an opening that is accepted, and its words
+pub open_accepted : {s : Said} (run : Run) (told : Told) (t before after : List ℕ) (roles room n : ℕ) → s ≡ said_over run told n roles n → tells told ≡ 0 ∷ 0 ∷ []
+    → n ≡ roles * length t → accepted ≡ open_of base t roles room → take (roles * length t) after ≡ blocks t roles
     → Says s after (opened base (keeps run before) roles room t)
 unfolding opened
-open_said run told t before after roles room words v e h w f g =
-    told_as e h (omega arith) (omega arith) (short t after roles words v w (λ z. few t roles room (sym (ap (λ (x : Verdict). x.number) f) ∙ z)))
-    (rw (← f, shown t after roles words v w g))
+open_accepted run told t before after roles room n e h w f g =
+    let small : n ≤ 8192 = omega (arith, w, few t roles room (sym (ap (λ (x : Verdict). x.number) f))) in
+    told_as e h (omega arith) (omega arith) small (rw (← f, w, g))
+
+-- and one that is refused
+pub open_refused : {s : Said} (run : Run) (told : Told) (t before after : List ℕ) (roles room n p : ℕ) → s ≡ said_over run told 0 roles 0 → tells told ≡ n ∷ p ∷ []
+    → (n ≡ 0 → ⊥) → refusal_says n p ≡ open_of base t roles room → Says s after (opened base (keeps run before) roles room t)
+unfolding opened
+open_refused run told t before after roles room n p e h w f =
+    told_as e h (omega arith) (omega arith) (omega arith) (rw (← f, ne_eqb n 0 w))
+
+-- no rule's number is 0
+pub rule_number : (r : Rule) → number_of r ≡ 0 → ⊥
+rule_number Words e = omega arith
+rule_number Roles e = omega arith
+rule_number Room e = omega arith
+rule_number Kind e = omega arith
+rule_number Field e = omega arith
+rule_number Link e = omega arith
+rule_number Named e = omega arith
+rule_number Twice e = omega arith
+rule_number Unbound e = omega arith
+rule_number Unguarded e = omega arith
+rule_number NoPart e = omega arith
 
 -- ---- `t`
 

@@ -91,7 +91,10 @@ fn received(run: Run, answer: Answer<Message>, words: &[u16]) -> Said
 {
     let number = u32::from(answer.number());
     let offered = u32::from(answer.offered());
-    let message = answer.result.unwrap_or(Message { label: 0, payload: 0 });
+    let message = answer.result.unwrap_or(Message {
+        label: 0,
+        payload: 0,
+    });
     let state = answer.state;
     let [set, count, lowest] = waiting(run, state, words);
     let label = u32::from(message.label);

@@ -1,22 +1,23 @@
 // The orders that set tables.
-ghost use Rattle.std.specs.Prelude.{◌≡◌, cond, [], ◌∷◌, ◌*◌, ◌<◌, ◌≤◌, eqb, length, take};
+ghost use Rattle.std.specs.Prelude.{◌≡◌, ◌*◌, ◌≤◌, OnOk, length, take};
 ghost use Rattle.table.specs.Limits.{base};
+ghost use Rattle.table.specs.Refusals.{verdict_of};
 ghost use Rattle.opening.specs.Opening.{open_of, blocks};
-ghost use Rattle.orders.specs.Orders.{opened, tabled, open_order, table_order};
+ghost use Rattle.orders.specs.Orders.{opened, open_order, table_order};
 ghost use Rattle.orders.specs.Lines.{keeps};
 ghost use Rattle.orders.specs.mirror.Said.{Says, Replies};
 
 use crate::run::{BLOCKS, LONGEST, Run, Said, Told};
 use session::Session;
-use table::Verdict;
+use table::Refusal;
 
 // Opens a table into the first words of `tables`.
 // No opening is refused for a room of BLOCKS words: ROLES roles of ROWS rows are the most that pass rules 1 and 2, which come before the room's rule 3.
 // So a longer room is lent at this length.
-fn lend(table: &[u16], roles: usize, room: usize, tables: &mut [u16]) -> Verdict
+fn lend(table: &[u16], roles: usize, room: usize, tables: &mut [u16]) -> Result<(), Refusal>
     requires { length tables.old ≡ 65536 }
-    ensures { (result ≡ open_of base table.now roles room)
-        × (result.number ≡ 0 → take (roles * length table.now) tables.new ≡ blocks table.now roles) }
+    ensures { (verdict_of result ≡ open_of base table.now roles room)
+        × OnOk result (take (roles * length table.now) tables.new ≡ blocks table.now roles) }
 {
     let lent = room.min(BLOCKS);
     opening::open(table, roles, &mut tables[..lent])
@@ -27,16 +28,31 @@ fn open_table(run: Run, table: &[u16], roles: usize, room: usize, tables: &mut [
     requires { length tables.old ≡ 65536 }
     ensures { Says result tables.new (opened base (keeps run tables.old) roles room table.now) }
 {
-    let verdict = lend(table, roles, room, tables);
-    let words = if verdict.number == Verdict::ACCEPTED {
-        roles * table.len()
-    } else {
-        0
-    };
-    Said {
-        told: Told::of(&[u32::from(verdict.number), verdict.place as u32]),
-        shown: words,
-        run: Run { roles, words, ..run },
+    match lend(table, roles, room, tables) {
+        Ok(()) => {
+            let words = roles * table.len();
+            Said {
+                told: Told::of(&[0, 0]),
+                shown: words,
+                run: Run {
+                    roles,
+                    words,
+                    ..run
+                },
+            }
+        }
+        Err(refusal) => {
+            let number = u8::from(refusal.rule);
+            Said {
+                told: Told::of(&[u32::from(number), refusal.place as u32]),
+                shown: 0,
+                run: Run {
+                    roles,
+                    words: 0,
+                    ..run
+                },
+            }
+        }
     }
 }
 

@@ -11,9 +11,9 @@ pub returns-then-numbers : goal.returns-then-numbers
 returns-then-numbers g c =
     let long = g.met.T.Width.length_of_numbers (replicate g.row.N c.of-items.result) ∙ length-replicate g.row.N c.of-items.result in
     elim c.then-numbers.branch [
-      then-numbers-via-then-numbers w ↦ rw (ne_eqb _ _ w.if-numbers.true)
-    | then-numbers-via-else-numbers+then-not-narrow w ↦
-        array_none _ _ _ _ _ w.if-numbers.false long w.narrow.ensures.0 w.if-not-narrow.true
+      | then-numbers-via-then-numbers w ↦ rw (ne_eqb _ _ w.if-numbers.true)
+      | then-numbers-via-else-numbers+then-not-narrow w ↦
+          array_none _ _ _ _ _ w.if-numbers.false long w.narrow.ensures.0 w.if-not-narrow.true
     ]
 
 pub returns : goal.returns

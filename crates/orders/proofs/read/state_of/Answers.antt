@@ -36,4 +36,4 @@ returns-in_err-payloads c =
 pub returns : goal.returns
 returns c =
     state_read c.args.numbers.now _ _ _ _ _ _ c.in_ok-heads.ensures.cases c.in_ok-counts.ensures.cases c.in_ok-labels.ensures.cases _ _ _ _
-      c.in_ok-heads-2.ensures c.in_ok-counts-2.ensures c.in_ok-labels-2.ensures c.in_ok-payloads.ensures
+    c.in_ok-heads-2.ensures c.in_ok-counts-2.ensures c.in_ok-labels-2.ensures c.in_ok-payloads.ensures

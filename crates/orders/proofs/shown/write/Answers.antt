@@ -24,4 +24,4 @@ returns c =
     let fits = fits_told _ _ _ _ _ c.as_slice-told.ensures c.cut.ensures.items c.requires.some c.requires.few c.requires.short in
     rw (← c.as_slice-told.ensures, ← c.cut.ensures.items)
     (put_text _ _ _ _ _ _ fits.0 (omega (arith, fits.1, length-replicate {A = ℕ} 8201 0)) c.copy.ensures c.wide-end.ensures.1 c.wide-end.ensures.0 _ _ _
-      (omega (arith, fits.1, c.requires.room)) c.text.ensures.1 c.text.ensures.2)
+    (omega (arith, fits.1, c.requires.room)) c.text.ensures.1 c.text.ensures.2)
