@@ -32,26 +32,28 @@ pub struct Log {
     pub records: Records,
 }
 
-// How many numbers the line has, none where it is malformed; they go to the start of `numbers`.
-fn read(line: &[u8], numbers: &mut [u32]) -> usize
+// The numbers of the line, none where it is malformed. They go to the start of `numbers`.
+fn read<'a>(line: &[u8], numbers: &'a mut [u32]) -> &'a [u32]
     requires { length numbers.old ≡ LONGEST }
-    ensures { (take result numbers.new ≡ line_numbers line.now) × (result ≤ LONGEST) }
+    ensures { result.now ≡ line_numbers line.now }
 {
-    lines::numbers(line, numbers).unwrap_or(0)
+    let count = lines::numbers(line, numbers).unwrap_or(0);
+    &numbers[..count]
 }
 
 // The record that a line of these numbers is.
 fn record_in(numbers: &[u32]) -> Option<Record>
     ensures { result ≡ record_in numbers.now }
 {
-    match numbers {
-        [minute, flag, set] if *flag < 2 && *set < 65536 => Some(Record {
-            minute: *minute,
-            awake: *flag != 0,
-            set: *set as u16,
-        }),
-        _ => None,
-    }
+    let [minute, flag, set] = numbers else {
+        return None;
+    };
+    let set = u16::try_from(*set).ok()?;
+    (*flag < 2).then_some(Record {
+        minute: *minute,
+        awake: *flag != 0,
+        set,
+    })
 }
 
 impl Log {
@@ -78,14 +80,8 @@ impl Log {
     {
         match self.state {
             State::Faulty => {}
-            State::Fresh => {
-                let count = read(line, numbers);
-                self.begin(&numbers[..count]);
-            }
-            State::Begun(roles) => {
-                let count = read(line, numbers);
-                self.record(roles, &numbers[..count]);
-            }
+            State::Fresh => self.begin(read(line, numbers)),
+            State::Begun(roles) => self.record(roles, read(line, numbers)),
         }
     }
 
