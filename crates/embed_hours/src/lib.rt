@@ -18,6 +18,7 @@ fn lay(figures: [u32; Table::ROLES], places: &mut [u32])
 }
 
 // The report of the log whose record i is minute i, whether flag i is not 0, and set i.
+// kept: the arrays and the pointers are the C interface
 #[unsafe(no_mangle)]
 pub extern "C" fn gaugetwinkle_report(
     minutes: &[u32],

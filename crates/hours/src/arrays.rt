@@ -6,6 +6,7 @@ ghost use Rattle.hours.specs.Promises.{ReportsArrays};
 use crate::{Figures, Record, Refusal, gather};
 
 // Record i is minute i, whether flag i is not 0, and set i.
+// kept: three arrays, as the C interface lends them
 pub fn report(minutes: &[u32], flags: &[u8], sets: &[u16], roles: usize) -> Result<Figures, Refusal>
     ensures { ReportsArrays base minutes.now flags.now sets.now roles (figures_of base result) }
 {

@@ -91,6 +91,7 @@ impl Log {
     {
         self.records.clear();
         self.state = match numbers {
+            // kept: `as`, since there is no `From<u32> for usize`
             [roles] => State::Begun(*roles as usize),
             _ => State::Faulty,
         };
