@@ -112,7 +112,7 @@ rows_positive (back k) = omega arith
 pub arm_there : {t : List ℕ} {i : ℕ} {res : Maybe Arm} → ArmRead t i res → word t i 0 ≡ 2
     → (a : Arm) × (res ≡ Some a) × (word t i 1 < SMALL → a.word ≡ code 2 (word t i 1)) × (a.then ≡ word t i 2) × (a.next ≡ word t i 3)
 arm_there (no_arm n h) k = absurd (h k)
-arm_there (an_arm a e w c m) k = (a, e, w, c, m)
+arm_there (an_arm a e h w c m) k = (a, e, w, c, m)
 
 -- a part of one word
 pub leaf_step : {v : Projection} {work work' : List ℕ} (spare : List ℕ) {at w left e : ℕ}

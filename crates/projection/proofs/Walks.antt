@@ -1,6 +1,8 @@
 -- Rows that lead on to one other row: the part of the one is that of the other, with words before and marks behind. Assumes nothing.
 use Prim.Native.Nat.{ℕ, suc, ◌+◌, ◌*◌, ◌<◌, ◌≤◌}
-use mathlib.Core.Bool.{true, ◌||◌}
+use mathlib.Core.Bool.{true, false, ◌||◌}
+use lib.Dec.{eqb}
+use borrow.Author.Tests.{eq-eqb, ne_eqb}
 use mathlib.Core.List.{List, [], ◌∷◌, ◌++◌, append_assoc, append-nil}
 use mathlib.Core.Option.{Option, none, some, bind}
 use mathlib.Core.Path.{◌≡◌, refl, sym, ◌∙◌, ap, subst}
@@ -19,7 +21,7 @@ use Rattle.parts.proofs.Laws.{part_size}
 use Rattle.parts.proofs.Rising.{holds_some}
 use Rattle.parts.proofs.Sizes.{words_twice}
 use Rattle.projection.specs.mirror.Orders.{Listed, listed_none, listed_arm}
-use Rattle.projection.specs.mirror.Projects.{Coded, s_exchange, s_loop, s_arm, Plain, plain_arm, Stack, Pushed, Outcome, fails, puts, SMALL, PlannedBy, Known, Planned, ArmRead, marks, Wraps, wraps_none, wraps_some, Within, Enters, Walks, Closed, Chooses, Projects}
+use Rattle.projection.specs.mirror.Projects.{Coded, s_exchange, s_loop, s_arm, Plain, plain_arm, Stack, Pushed, Outcome, fails, puts, SMALL, PlannedBy, Known, Planned, ArmRead, no_arm, an_arm, leads_on, marks, Wraps, wraps_none, wraps_some, Within, Enters, Walks, Closed, Chooses, Projects}
 use Rattle.projection.specs.declared.Arm.{Arm}
 use Rattle.projection.specs.declared.Plan.{Plan}
 use Rattle.projection.specs.declared.Plan.TheVariants.{Body, Action, Others}
@@ -27,7 +29,7 @@ use Rattle.projection.specs.declared.Projection.{Projection}
 use Rattle.projection.specs.declared.Step.{Step}
 use Rattle.projection.specs.declared.Way.{Way}
 use Rattle.projection.proofs.Steps.{none_some, some_same, rows_positive, restack, space_within, ordered_plain, arm_there}
-use Rattle.std.specs.Prelude.{Some, None}
+use Rattle.std.specs.Prelude.{Some, None, is_some}
 use Rattle.std.specs.Prelude.{Option as Maybe}
 use Rattle.std.proofs.lemmas.Option.{none-some, same_Some}
 
@@ -80,12 +82,13 @@ unfolding rows_in
 inside_loop {r} {B = B} takes f (g_loop g) (s_loop m) = record { good = g; small = m; wraps = wraps_loop r B takes; rows = omega arith; fits = omega arith }
 
 -- a step that was taken, from what it gives
-entered : {v : Projection} {plan : Plan} {work work' : List ℕ} {at : ℕ} (e : Step) → e.marks ≤ 1
+entered : {v : Projection} {plan : Plan} {work work' : List ℕ} {at : ℕ} (e : Step) → leads_on v plan ≡ true → e.marks ≤ 1
     → ((G : Global ℕ) (left : ℕ) (s : List ℕ) → PlannedBy plan v G → rows_in G ≤ suc left → Good G → Coded G
     → Stack work at s → at + rows_in G * 2 ≤ length work
     → (B : Global ℕ) × (ws : List ℕ) × Grows v.table.now e.row B × Stack work' e.at (s ++ ws) × Within v.role G left ws e.marks B)
     → Enters v plan work at work' (Some e)
-entered {v} {plan} {work} {work'} {at} e few gives = record {
+entered {v} {plan} {work} {work'} {at} e on few gives = record {
+  leads = sym on;
   stays = λ n. absurd (none-some e (sym n));
   few = λ d is. subst (λ (x : Step). x.marks ≤ 1) (same_Some e d is) few;
   gives = λ d is.
@@ -96,10 +99,20 @@ entered {v} {plan} {work} {work'} {at} e few gives = record {
       (same_Some e d is) gives;
 }
 
+-- an arm that was read is one, and where there is none the row is none
+pub arm_kind : {t : List ℕ} {i : ℕ} {read : Maybe Arm} (a : Arm) → ArmRead t i read → read ≡ Some a → eqb (word t i 0) 2 ≡ true
+arm_kind {t} {i} a (no_arm n h) e = absurd (none_some n e)
+arm_kind {t} {i} a (an_arm b s k w c m) e = eq-eqb (word t i 0) 2 k
+
+-- the arm behind one that was read
+pub arm_next : {t : List ℕ} {i : ℕ} {read : Maybe Arm} (a : Arm) → ArmRead t i read → read ≡ Some a → a.next ≡ word t i 3
+arm_next a (no_arm n h) e = absurd (none_some n e)
+arm_next {t} {i} a (an_arm b s k w c m) e = subst (λ (x : Arm). x.next ≡ word t i 3) (some_same s e) m
+
 pub enter_loop : {v : Projection} {w next : ℕ} {work work' : List ℕ} {at e : ℕ} → Pushed work at w work' e
     → Enters v (Body w next) work at work' (Some (record { row = next; at = e; marks = 0 }))
 enter_loop {v} {work = work} {work'} {at} {e} push =
-    entered (record { row = _; at = e; marks = 0 }) (omega arith)
+    entered (record { row = _; at = e; marks = 0 }) refl (omega arith)
     (λ G left s by f g m k room.
     let (B, is, grows, takes, word_is) = by in
     let top = push.gives s k (omega (arith, rows_positive G)) in (
@@ -149,7 +162,8 @@ pub enter_sole : {v : Projection} {w next n : ℕ} {work work₁ work₂ : List 
     → Pushed work₁ e₁ a.word work₂ e₂ → length work₁ ≡ length work → Enters v (Action w next) work at work₂ (Some (record { row = a.then; at = e₂; marks = 1 }))
 unfolding rows_in rows_in_arms
 enter_sole {v} {w} {next} {n} {work} {work₁} {work₂} {at} {e₁} {e₂} a {read} on last en is ea push₁ push₂ len =
-    entered (record { row = a.then; at = e₂; marks = 1 }) (omega arith)
+    entered (record { row = a.then; at = e₂; marks = 1 })
+    (rw (ne_eqb next 0 on, eq-eqb (get_or v.order.now next 0) 0 (sym en ∙ last), arm_kind a is ea) refl) (omega arith)
     (λ G left s by f g m k room.
     let (p, q, cs, act, is_exchange, listed, ex, words) = by in
     let (l, B, one, kind, label, grows) = only_arm listed on (sym en ∙ last) in
@@ -204,7 +218,8 @@ chain_kind (chain_more h a b c d m g x) = a
 pub enter_passed : {v : Projection} {next : ℕ} {work : List ℕ} {at : ℕ} (a : Arm) {read : Maybe Arm} → ArmRead v.table.now next read → read ≡ Some a → a.next ≡ 0
     → Enters v (Others next) work at work (Some (record { row = a.then; at = at; marks = 0 }))
 enter_passed {v} {next} {work} {at} a is ea last =
-    entered (record { row = a.then; at = at; marks = 0 }) (omega arith)
+    entered (record { row = a.then; at = at; marks = 0 })
+    (rw (arm_kind a is ea, eq-eqb (word v.table.now next 3) 0 (sym (arm_next a is ea) ∙ last)) refl) (omega arith)
     (λ G left s by f g m stack room.
     let (p, q, cs, is_exchange, chain, ex) = by in
     let (c, ec, word_is, then_is, next_is) = arm_there is (chain_kind chain) in
@@ -252,6 +267,7 @@ pub walks : {v : Projection} {left i here at top n more less : ℕ} {plan : Plan
     → Comes v left i work₀ at here work top n more → Planned v here plan → Enters v plan work top work' res → res ≡ None → more ≡ suc less
     → Walks v left i work₀ at work' (Some (record { plan = plan; at = top; marks = n; left = less }))
 walks {v} {left} {n = n} {less = less} {plan = plan} {work} {work' = work'} comes plans enter stops el = record {
+  stops = λ e is. subst (λ (x : Way). leads_on v x.plan ≡ false) (same_Some _ e is) (sym enter.leads ∙ ap is_some stops);
   within = λ e is. subst (λ (x : Way). x.left < left) (same_Some _ e is) (omega (arith, comes.within));
   gives = λ G s o h f g m st room.
       let (B, ws, grows, stack, inside) = comes.gives G s o h f g m st room in
@@ -263,6 +279,7 @@ walks {v} {left} {n = n} {less = less} {plan = plan} {work} {work' = work'} come
 pub walks_nowhere : {v : Projection} {left i here at top n more : ℕ} {work₀ work : List ℕ}
     → Comes v left i work₀ at here work top n more → more ≡ 0 → Walks v left i work₀ at work None
 walks_nowhere comes e = record {
+  stops = λ d is. absurd (none-some d is);
   within = λ d is. absurd (none-some d is);
   gives = λ G s o h f g m st room.
       let (B, ws, grows, stack, inside) = comes.gives G s o h f g m st room in

@@ -1,6 +1,6 @@
 -- What is promised of the projection's functions: each puts the words of a part, or of arms, on a stack, or says that there is no part.
 -- r: the role. work, work': the stack before and after. at, e: its height. Assumes nothing.
-use Rattle.std.specs.Prelude.{ℕ, zero, suc, ◌+◌, ◌*◌, ◌<◌, ◌≤◌, true, not, ◌||◌, List, [], ◌∷◌, ◌++◌, ◌≡◌, Some, None, Result, OnOk, ⊤, length, replicate}
+use Rattle.std.specs.Prelude.{ℕ, zero, suc, ◌+◌, ◌*◌, ◌<◌, ◌≤◌, true, not, ◌||◌, List, [], ◌∷◌, ◌++◌, ◌≡◌, Some, None, Result, OnOk, ⊤, length, replicate, Bool, false, ◌&&◌, eqb, get_or, is_some}
 use Rattle.std.specs.Prelude.{Option as Maybe}
 use Rattle.std.proofs.Math.Option.{Option, none, some, bind}
 use Rattle.words.specs.Rows.{word}
@@ -105,9 +105,16 @@ pub record Planned (v : Projection) (i : ℕ) (plan : Plan) : Type 0 where
 -- an arm as the code read it, where the row is one
 pub data ArmRead (t : List ℕ) (i : ℕ) (res : Maybe Arm) : Type 0 where
   no_arm : res ≡ None → (word t i 0 ≡ 2 → ⊥) → ArmRead t i res
-  an_arm : (a : Arm) → res ≡ Some a → (word t i 1 < SMALL → a.word ≡ code 2 (word t i 1)) → a.then ≡ word t i 2 → a.next ≡ word t i 3 → ArmRead t i res
+  an_arm : (a : Arm) → res ≡ Some a → word t i 0 ≡ 2 → (word t i 1 < SMALL → a.word ≡ code 2 (word t i 1)) → a.then ≡ word t i 2 → a.next ≡ word t i 3 → ArmRead t i res
 
 -- ---- rows that lead on to one other row
+
+-- the plan leads on: a Loop, the only arm of an action of the role's own, the only arm of an exchange of others
+abbrev pub leads_on : Projection → Plan → Bool
+leads_on v (Leaf w) = false
+leads_on v (Body w i) = true
+leads_on v (Action w i) = (not (eqb i 0) && eqb (get_or v.order.now i 0) 0) && eqb (word v.table.now i 0) 2
+leads_on v (Others i) = eqb (word v.table.now i 0) 2 && eqb (word v.table.now i 3) 0
 
 -- so many marks, each behind the last arm of an action
 abbrev pub marks : ℕ → List ℕ
@@ -128,14 +135,16 @@ pub record Within (r : ℕ) (G : Global ℕ) (left : ℕ) (ws : List ℕ) (n : �
 
 -- where a plan leads on, the words before the tree of the row that it leads on to; where it does not, nothing is put
 pub record Enters (v : Projection) (plan : Plan) (work : List ℕ) (at : ℕ) (work' : List ℕ) (res : Maybe Step) : Type 0 where
+  pub leads : is_some res ≡ leads_on v plan
   pub stays : res ≡ None → work' ≡ work
   pub few : (e : Step) → res ≡ Some e → e.marks ≤ 1
   pub gives : (e : Step) → res ≡ Some e → (G : Global ℕ) (left : ℕ) (s : List ℕ) → PlannedBy plan v G → rows_in G ≤ suc left → Good G → Coded G
       → Stack work at s → at + rows_in G * 2 ≤ length work
       → (B : Global ℕ) × (ws : List ℕ) × Grows v.table.now e.row B × Stack work' e.at (s ++ ws) × Within v.role G left ws e.marks B
 
--- the plan of a row below row i, and what stands around its part; none where the links run out
+-- the plan of a row below row i that leads on to no single one, and what stands around its part; none where the links run out
 pub record Walks (v : Projection) (left i : ℕ) (work : List ℕ) (at : ℕ) (work' : List ℕ) (res : Maybe Way) : Type 0 where
+  pub stops : (e : Way) → res ≡ Some e → leads_on v e.plan ≡ false
   pub within : (e : Way) → res ≡ Some e → e.left < left
   pub gives : (G : Global ℕ) (s : List ℕ) → Known v → Grows v.table.now i G → rows_in G ≤ left → Good G → Coded G → Stack work at s
       → at + rows_in G * 2 ≤ length work

@@ -10,4 +10,4 @@ use Rattle.projection.proofs.Projection.arm_at.Goals as goal
 pub returns : goal.returns
 returns c =
     let (k, a, b, f) = words_are _ _ _ _ (Arm _ _ _) (sym (ap said c.in-Arm.is) ∙ c.read.ensures) (omega arith) in
-    an_arm _ refl (λ l. rw a (narrowed 2 c.narrow.ensures c.word.ensures (rw a at l))) (sym b) (sym f)
+    an_arm _ refl k (λ l. rw a (narrowed 2 c.narrow.ensures c.word.ensures (rw a at l))) (sym b) (sym f)
