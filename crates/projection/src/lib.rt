@@ -14,8 +14,9 @@ ghost use Rattle.table.specs.Refusals.{verdict_of};
 ghost use Rattle.table.specs.Tree.{Global, loop, Arms, exchange};
 ghost use Rattle.parts.specs.mirror.Grows.{Grows, Chain, ordered};
 ghost use Rattle.parts.specs.mirror.Kinds.{argument_of, word_of};
+ghost use Rattle.projection.specs.mirror.Keeps.{Keeps};
 ghost use Rattle.projection.specs.mirror.Orders.{Listed};
-ghost use Rattle.projection.specs.mirror.Projects.{SMALL, Coded, Pushed, PlannedBy, Known, Planned, Enters, Walks, Closed, ArmRead, Chooses, Projects, Owns, Folds, Parted, parts_of, Complete};
+ghost use Rattle.projection.specs.mirror.Projects.{SMALL, Coded, Pushed, PlannedBy, Planned, Enters, Walks, Closed, ArmRead, Chooses, Projects, Owns, Folds, Parted, parts_of, Complete};
 
 use parts::Code;
 use table::{Refusal, Row, Rule, Table};
@@ -116,8 +117,8 @@ struct Projection<'a> {
 impl<'a> Projection<'a> {
     // A Loop: where the role is in no exchange below and no Back below leaves the Loop, its part is end.
     fn at_loop(&self, row: usize, body: usize) -> Plan
-        ensures { (B : Global ℕ) → Known self.now → Grows self.now.table.now row (loop B) → Grows self.now.table.now body B
-            → PlannedBy result self.now (loop B) }
+        ensures { (B : Global ℕ) → Keeps self.now.table.now self.now.kept.now → self.now.role < base.roles
+            → Grows self.now.table.now row (loop B) → Grows self.now.table.now body B → PlannedBy result self.now (loop B) }
     {
         if reach::stays(self.kept, row, self.role) {
             Plan::Body {
