@@ -110,7 +110,7 @@ fn twice(words: &[u16], row: usize) -> Option<usize>
     ensures { result ≡ chain_of words.now (row_at words.now row) }
 {
     match read(words, row) {
-        Row::Exchange { arms, .. } => repeated(words, arms),
+        Row::Exchange { arms, .. } => repeated(words, usize::from(arms)),
         _ => None,
     }
 }
@@ -195,7 +195,7 @@ impl<'a> Nests<'a> {
         ensures { result ≡ unbound_broken self.now.words.now row (row_at self.now.words.now row) }
     {
         match read(self.words, row) {
-            Row::Back(depth, ..) => usize::from(self.rows[row].around) <= depth,
+            Row::Back(depth, ..) => self.rows[row].around <= depth,
             _ => false,
         }
     }
@@ -206,7 +206,7 @@ impl<'a> Nests<'a> {
         ensures { result ≡ unguarded_broken self.now.words.now row (row_at self.now.words.now row) }
     {
         match read(self.words, row) {
-            Row::Back(depth, ..) => depth < usize::from(self.rows[row].near),
+            Row::Back(depth, ..) => depth < self.rows[row].near,
             _ => false,
         }
     }

@@ -11,20 +11,20 @@ use crate::Table;
 // A row: its first word decides what the other three hold. The words that a kind does not use are kept, since a rule asks for 0 there.
 #[derive(Clone, Copy, Debug, PartialEq, Eq)]
 pub enum Row {
-    End(usize, usize, usize),
+    End(u16, u16, u16),
     // Arms are linked from the first; no next arm is 0.
     Exchange {
-        sender: usize,
-        receiver: usize,
-        arms: usize,
+        sender: u16,
+        receiver: u16,
+        arms: u16,
     },
     Arm {
-        label: usize,
-        then: usize,
-        next: usize,
+        label: u16,
+        then: u16,
+        next: u16,
     },
-    Loop(usize, usize, usize),
-    Back(usize, usize, usize),
+    Loop(u16, u16, u16),
+    Back(u16, u16, u16),
     // No row has such a kind.
     Other,
 }
@@ -34,9 +34,6 @@ impl From<[u16; 4]> for Row {
 
     fn from(four: [u16; 4]) -> Row {
         let [kind, first, second, third] = four;
-        let first = usize::from(first);
-        let second = usize::from(second);
-        let third = usize::from(third);
         match kind {
             0 => Row::End(first, second, third),
             1 => Row::Exchange {
@@ -81,8 +78,12 @@ impl Row {
                 sender,
                 receiver,
                 ..
-            } => { !(sender < roles && receiver < roles && sender != receiver) }
-            Row::Arm { label, .. } => !(label < Table::LABELS),
+            } => {
+                let sender = usize::from(sender);
+                let receiver = usize::from(receiver);
+                !(sender < roles && receiver < roles && sender != receiver)
+            }
+            Row::Arm { label, .. } => !(usize::from(label) < Table::LABELS),
             Row::Loop(_, a, b) | Row::Back(_, a, b) => !(a == 0 && b == 0),
             Row::Other => false,
         }
@@ -93,9 +94,9 @@ impl Row {
         ensures { result ≡ near_link (said self) }
     {
         match self {
-            Row::Exchange { arms, .. } => arms,
-            Row::Arm { then, .. } => then,
-            Row::Loop(body, _, _) => body,
+            Row::Exchange { arms, .. } => usize::from(arms),
+            Row::Arm { then, .. } => usize::from(then),
+            Row::Loop(body, _, _) => usize::from(body),
             _ => 0,
         }
     }
@@ -105,23 +106,25 @@ impl Row {
         ensures { result ≡ far_link (said self) }
     {
         match self {
-            Row::Arm { next, .. } => next,
+            Row::Arm { next, .. } => usize::from(next),
             _ => 0,
         }
     }
 }
 
 // A link from a row goes to a higher row inside the table, and that row is an Arm.
-fn to_arm(words: &[u16], row: usize, to: usize) -> bool
-    ensures { result ≡ to_arm words.now row to }
+fn to_arm(words: &[u16], row: usize, link: u16) -> bool
+    ensures { result ≡ to_arm words.now row link }
 {
+    let to = usize::from(link);
     row < to && to < words.len() / 4 && matches!(read(words, to), Row::Arm { .. })
 }
 
 // The same to a row that is no Arm.
-fn to_other(words: &[u16], row: usize, to: usize) -> bool
-    ensures { result ≡ to_other words.now row to }
+fn to_other(words: &[u16], row: usize, link: u16) -> bool
+    ensures { result ≡ to_other words.now row link }
 {
+    let to = usize::from(link);
     row < to && to < words.len() / 4 && !matches!(read(words, to), Row::Arm { .. })
 }
 

@@ -1,7 +1,7 @@
 // Rows of four 16-bit words in a lent slice: reads and writes that are right for any slice and any row.
 #![tactic(auto)]
 
-ghost use Rattle.std.specs.Prelude.{◌≡◌, ◌<◌, get_or, set};
+ghost use Rattle.std.specs.Prelude.{◌≡◌, get_or, set};
 ghost use Rattle.words.specs.Rows.{word, row_words, put_row};
 
 // The word at i, or 0 past the end.
@@ -45,13 +45,6 @@ pub fn row(words: &[u16], row: usize) -> [u16; 4]
         word(words, row, 2),
         word(words, row, 3),
     ]
-}
-
-// A word as a row, a role or a label.
-pub fn wide(x: u16) -> usize
-    ensures { (result ≡ x) × (result < 65536) }
-{
-    usize::from(x)
 }
 
 // The row holds these four words; nothing is done where it is not wholly inside.

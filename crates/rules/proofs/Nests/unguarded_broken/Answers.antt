@@ -10,7 +10,6 @@ returns-in-Back c =
     rw (
       ← c.in-Back.ensures {u = tt},
       only_loops_lem,
-      c.from.ensures,
       ← get_or-map (λ n. n.near) c.args.self.now.rows c.args.row (record { around = 0; near = 0 }),
       near,
     ) refl
