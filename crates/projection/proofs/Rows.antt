@@ -1,5 +1,5 @@
 -- What a row asks for a role, from the words that the code read. Assumes nothing.
-use Prim.Native.Nat.{ℕ, zero, suc, ◌+◌, ◌*◌, ◌<◌, min}
+use Prim.Native.Nat.{ℕ, zero, suc, ◌+◌, ◌*◌, ◌<◌}
 use mathlib.Core.Bool.{Bool, false, ◌||◌}
 use mathlib.Core.List.{List}
 use mathlib.Core.Logic.{◌≢◌}
@@ -106,10 +106,6 @@ not_exchange t i x e never k = go x never (ap number e ∙ rw k refl)
     go (read.Loop a b c) never h = omega arith
     go (read.Back a b c) never h = omega arith
     go read.Other never h = omega arith
-
--- a small field as a word again
-pub narrowed : (k : ℕ) {x n w : ℕ} → n ≡ min x 65535 → (n < SMALL → w ≡ k + n * 8) → x < SMALL → w ≡ k + x * 8
-narrowed k {x} {n} e h l = let same : n ≡ x = omega (arith, e) in rw (← same) (h (omega arith))
 
 -- ---- the kind of a row, as the code read it
 

@@ -73,13 +73,6 @@ fn word(code: Code) -> u16
     u16::try_from(code).unwrap_or(0)
 }
 
-// The field of a row as a word again.
-fn narrow(field: usize) -> u16
-    ensures { result ≡ min field 65535 }
-{
-    u16::try_from(field).unwrap_or(u16::MAX)
-}
-
 // One word more on the stack; nothing where it is full, so that no sum wraps.
 // kept: the stack is a lent slice with its height beside it, and the height is answered. A struct around the `&mut` is no plainer: each clause
 // would say besides that the same slice is left in it, as long as it was.
@@ -133,20 +126,20 @@ impl<'a> Projection<'a> {
     }
 
     // An Exchange: the role sends, receives, or stands by. `least`: the arm with the lowest label; `first`: the first of the chain.
-    fn at_exchange(&self, sender: usize, receiver: usize, least: usize, first: usize) -> Plan
+    fn at_exchange(&self, sender: u16, receiver: u16, least: usize, first: usize) -> Plan
         ensures { (cs : Arms ℕ) → Coded (exchange sender receiver cs)
             → Listed self.now.table.now self.now.order.now least (ordered cs) → Chain self.now.table.now first cs
             → PlannedBy result self.now (exchange sender receiver cs) }
     {
-        if self.role == sender {
+        if self.role == usize::from(sender) {
             return Plan::Action {
-                word: word(Code::Send(narrow(receiver))),
+                word: word(Code::Send(receiver)),
                 first: least,
             };
         }
-        if self.role == receiver {
+        if self.role == usize::from(receiver) {
             return Plan::Action {
-                word: word(Code::Receive(narrow(sender))),
+                word: word(Code::Receive(sender)),
                 first: least,
             };
         }
@@ -169,10 +162,10 @@ impl<'a> Projection<'a> {
                 sender,
                 receiver,
                 arms,
-            } => self.at_exchange(sender, receiver, self.after(row), arms),
-            Row::Loop(body, _, _) => self.at_loop(row, body),
+            } => self.at_exchange(sender, receiver, self.after(row), usize::from(arms)),
+            Row::Loop(body, _, _) => self.at_loop(row, usize::from(body)),
             Row::Back(depth, _, _) => Plan::Leaf {
-                word: word(Code::Back(narrow(depth))),
+                word: word(Code::Back(depth)),
             },
             _ => Plan::Leaf {
                 word: word(Code::End),
@@ -188,9 +181,9 @@ impl<'a> Projection<'a> {
             return None;
         };
         Some(Arm {
-            word: word(Code::Arm(narrow(label))),
-            then,
-            next,
+            word: word(Code::Arm(label)),
+            then: usize::from(then),
+            next: usize::from(next),
         })
     }
 

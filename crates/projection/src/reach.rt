@@ -10,7 +10,6 @@ ghost use Rattle.parts.specs.mirror.Grows.{Grows};
 ghost use Rattle.projection.specs.mirror.Reach.{alone, nothing, both, placed, next_of, reach_of, stay_of};
 ghost use Rattle.projection.specs.mirror.Keeps.{Keeps};
 
-use crate::narrow;
 use table::{Row, Table};
 
 // What a row and the rows below it reach.
@@ -74,15 +73,18 @@ impl Reach {
                 receiver,
                 arms,
             } => {
-                let arms = Reach::at(found, arms);
+                let arms = Reach::at(found, usize::from(arms));
                 Reach {
-                    roles: only(sender) | only(receiver) | arms.roles,
+                    roles: only(usize::from(sender)) | only(usize::from(receiver)) | arms.roles,
                     ..arms
                 }
             }
-            Row::Arm { then, next, .. } => Reach::at(found, then).and(Reach::at_next(found, next)),
+            Row::Arm { then, next, .. } => Reach::at(found, usize::from(then)).and(Reach::at_next(
+                found,
+                usize::from(next),
+            )),
             Row::Loop(body, _, _) => {
-                let body = Reach::at(found, body);
+                let body = Reach::at(found, usize::from(body));
                 Reach {
                     out: body.out.saturating_sub(1),
                     ..body
@@ -91,7 +93,7 @@ impl Reach {
             // Only a broken table has a depth for which there is no next number.
             Row::Back(depth, _, _) => Reach {
                 roles: 0,
-                out: narrow(depth).saturating_add(1),
+                out: depth.saturating_add(1),
             },
             Row::End(_, _, _) | Row::Other => Reach::NOTHING,
         }

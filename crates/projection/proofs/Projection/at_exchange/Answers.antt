@@ -1,15 +1,16 @@
 -- `projection::Projection::at_exchange` meets its contract. Assumes nothing.
-use Rattle.projection.proofs.Rows.{narrowed, send_plan, receive_plan, others_plan}
+use mathlib.Core.Path.{sym, ◌∙◌}
+use Rattle.projection.proofs.Rows.{send_plan, receive_plan, others_plan}
 use Rattle.projection.proofs.Projection.at_exchange.Goals as goal
 
-pub returns-then-self-sender : goal.returns-then-self-sender
-returns-then-self-sender c =
-    λ cs m l d. send_plan c.args.self.now _ _ cs m c.if-self-sender.true (narrowed 5 c.narrow.ensures c.word.ensures) l
+pub returns-then-self-from : goal.returns-then-self-from
+returns-then-self-from c =
+    λ cs m l d. send_plan c.args.self.now _ _ cs m (c.if-self-from.true ∙ c.from.ensures) c.word.ensures l
 
-pub returns-then-self-receiver : goal.returns-then-self-receiver
-returns-then-self-receiver c =
-    λ cs m l d. receive_plan c.args.self.now _ _ cs m c.if-self-sender.false c.if-self-receiver.true
-    (narrowed 6 c.narrow-then-self-receiver.ensures c.word-then-self-receiver.ensures) l
+pub returns-then-self-from-2 : goal.returns-then-self-from-2
+returns-then-self-from-2 c =
+    λ cs m l d. receive_plan c.args.self.now _ _ cs m (λ e. c.if-self-from.false (e ∙ sym c.from.ensures)) (c.if-self-from-2.true ∙ c.from-2.ensures)
+    c.word-then-self-from-2.ensures l
 
 pub returns : goal.returns
-returns c = λ cs m l d. others_plan c.args.self.now _ _ cs m c.if-self-sender.false c.if-self-receiver.false d
+returns c = λ cs m l d. others_plan c.args.self.now _ _ cs m (λ e. c.if-self-from.false (e ∙ sym c.from.ensures)) (λ e. c.if-self-from-2.false (e ∙ sym c.from-2.ensures)) d
