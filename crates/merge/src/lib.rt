@@ -198,45 +198,50 @@ fn merge(src: &[u16], exact: bool, rows: Rows, out: &mut [u16]) -> Merged
             at: rows.at,
         };
     };
+    let ok;
+    let behind;
     match rule {
-        Rule::Leaf => Merged {
-            ok: true,
-            a: next.a,
-            b: next.b,
-            at: next.at,
-        },
-        Rule::Inside { exact } => merge(src, exact, next, out),
+        Rule::Leaf => {
+            return Merged {
+                ok: true,
+                a: next.a,
+                b: next.b,
+                at: next.at,
+            };
+        }
+        Rule::Inside { exact } => return merge(src, exact, next, out),
         Rule::First => {
             let one = copy(src, next.a, out, next.at);
-            let behind = Rows {
+            ok = one.ok;
+            behind = Rows {
                 a: one.end,
                 b: rows.b,
                 at: one.at,
                 left: next.left,
             };
-            merge(src, exact, behind, out).only_if(one.ok)
         }
         Rule::Second => {
             let one = copy(src, next.b, out, next.at);
-            let behind = Rows {
+            ok = one.ok;
+            behind = Rows {
                 a: rows.a,
                 b: one.end,
                 at: one.at,
                 left: next.left,
             };
-            merge(src, exact, behind, out).only_if(one.ok)
         }
         Rule::Both => {
             let one = merge(src, false, next, out);
-            let behind = Rows {
+            ok = one.ok;
+            behind = Rows {
                 a: one.a,
                 b: one.b,
                 at: one.at,
                 left: next.left,
             };
-            merge(src, exact, behind, out).only_if(one.ok)
         }
     }
+    merge(src, exact, behind, out).only_if(ok)
 }
 
 // Puts these words at `at`, as far as `out` reaches. The answer is the place behind them.
