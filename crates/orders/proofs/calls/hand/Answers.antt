@@ -1,5 +1,5 @@
 -- `orders::calls::hand` meets its contract. Assumes nothing.
-use mathlib.Core.Path.{refl, sym, ◌∙◌}
+use mathlib.Core.Path.{refl, ◌∙◌}
 use Rattle.table.specs.Limits.{base}
 use Rattle.session.specs.Results.{told}
 use Rattle.orders.proofs.Replies.{call_hand, no_hand, none_of, some_of, hand_said}

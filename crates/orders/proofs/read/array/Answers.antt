@@ -1,7 +1,6 @@
 -- `orders::read::array` meets its contract: as many numbers as there are, and all of that kind. Assumes nothing.
-use Prim.Native.Nat.{◌+◌}
-use mathlib.Core.Path.{◌≡◌, ◌∙◌}
-use lib.ListN.{length, replicate, length-replicate}
+use mathlib.Core.Path.{◌∙◌}
+use lib.ListN.{replicate, length-replicate}
 use borrow.Author.Tests.{ne_eqb}
 use Rattle.orders.proofs.Lists.{array_none, array_some}
 use Rattle.orders.proofs.read.array.Goals as goal

@@ -1,10 +1,7 @@
 -- `orders::shown::write` meets its contract. Assumes nothing.
-use Prim.Native.Nat.{ℕ, ◌+◌, ◌≤◌, ◌<◌}
-use mathlib.Core.List.{List}
-use mathlib.Core.Path.{◌≡◌}
+use Prim.Native.Nat.{ℕ}
 use native.Mathlib.Omega.{arith}
-use lib.ListN.{length, take, length-take, length-replicate}
-use Rattle.orders.specs.mirror.Said.{tells}
+use lib.ListN.{length-take, length-replicate}
 use Rattle.orders.proofs.Showing.{put_room, put_text, fits_told}
 use Rattle.orders.proofs.shown.write.Goals as goal
 

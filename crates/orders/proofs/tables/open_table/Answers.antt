@@ -1,6 +1,5 @@
 -- `orders::tables::open_table` meets its contract. Assumes nothing.
-use Prim.Native.Nat.{◌<◌}
-use mathlib.Core.Path.{◌≡◌, refl, sym, ◌∙◌, ap}
+use mathlib.Core.Path.{refl, sym, ◌∙◌, ap}
 use native.Mathlib.Omega.{arith}
 use Rattle.table.specs.Check.{Verdict}
 use Rattle.orders.proofs.Openings.{place_small, few}

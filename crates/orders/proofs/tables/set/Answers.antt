@@ -1,10 +1,7 @@
 -- `orders::tables::set` meets its contract. Assumes nothing.
-use Prim.Native.Nat.{◌≤◌}
 use mathlib.Core.Path.{◌≡◌, refl, sym, ◌∙◌}
 use native.Mathlib.Omega.{arith}
-use lib.ListN.{length, drop}
-use Rattle.table.specs.Limits.{base}
-use Rattle.session.specs.Results.{answered}
+use lib.ListN.{drop}
 use Rattle.orders.specs.Orders.{number}
 use Rattle.orders.proofs.Settings.{set_short, set_wide, set_told}
 use Rattle.orders.proofs.tables.set.Goals as goal
