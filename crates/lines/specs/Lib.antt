@@ -1,3 +1,4 @@
+pub mod Held
 pub mod Input
 pub mod Line
 pub mod Over

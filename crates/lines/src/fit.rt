@@ -58,6 +58,7 @@ impl Width for u16 {
 
     ghost numbers_of_set = { λ xs i x. refl };
 
+    // kept: `as`, since `requires` says that the number fits
     fn of(n: u32) -> u16 {
         n as u16
     }
@@ -76,6 +77,7 @@ impl Width for u8 {
 
     ghost numbers_of_set = { λ xs i x. refl };
 
+    // kept: `as`, since `requires` says that the number fits
     fn of(n: u32) -> u8 {
         n as u8
     }
@@ -121,6 +123,7 @@ pub fn narrow<T: Width>(numbers: &[u32], out: &mut [T]) -> bool
 }
 
 // The words as numbers from place `at` of `out` on, as many as it holds. Answers the place after the last.
+// kept: beside `put`, which copies a block of one kind, these are widened one by one
 pub fn wide(words: &[u16], out: &mut [u32], at: usize) -> usize
     ensures { Puts at words.now out.old result out.new }
 {

@@ -1,68 +1,14 @@
-// The lines of an input: a line that comes in byte by byte, and a reader that is run to its end.
-ghost use Rattle.std.specs.Prelude.{◌≡◌, ◌≤◌, ◌==◌, take, [], ◌∷◌, ◌++◌, OnOk, length};
-ghost use Rattle.lines.specs.Input.{longer, ended, begun, Answered, AllAnswered};
+// The lines of an input: a reader that is run to its end.
+ghost use Rattle.std.specs.Prelude.{◌≡◌, OnOk};
+ghost use Rattle.lines.specs.Input.{ended, begun, Answered, AllAnswered};
+ghost use Rattle.lines.specs.Held.{front_of, held};
 
+use crate::line::Line;
 use std::io;
 use std::io::Read;
 
 // As many bytes as are read at once.
 const CHUNK: usize = 65536;
-
-// A line that comes in byte by byte behind a front that each line has. What its room does not hold is not kept.
-#[derive(Drop)]
-pub struct Line<const ROOM: usize> {
-    bytes: [u8; ROOM],
-    front: usize,
-    length: usize,
-    ghost within: { (front ≤ length) × (length ≤ ROOM) },
-}
-
-impl<const ROOM: usize> Line<ROOM> {
-    // An empty line behind the front, as far as there is room for that.
-    pub fn behind(front: &[u8]) -> Line<ROOM>
-        ensures front { take result.front result.bytes ≡ take ROOM front.now }
-        ensures line { take result.length result.bytes ≡ take ROOM front.now }
-    {
-        let length = front.len().min(ROOM);
-        let mut bytes = [0u8; ROOM];
-        bytes[..length].copy_from_slice(&front[..length]);
-        Line {
-            bytes,
-            front: length,
-            length,
-        }
-    }
-
-    // One byte more.
-    pub fn push(&mut self, byte: u8)
-        ensures front { take self.new.front self.new.bytes ≡ take self.old.front self.old.bytes }
-        ensures line { take self.new.length self.new.bytes ≡ longer ROOM (take self.old.length self.old.bytes) byte }
-    {
-        if self.length < ROOM {
-            self.bytes[self.length] = byte;
-            self.length += 1;
-        }
-    }
-
-    pub fn as_slice(&self) -> &[u8]
-        ensures { result.now ≡ take self.now.length self.now.bytes }
-    {
-        &self.bytes[..self.length]
-    }
-
-    pub fn clear(&mut self)
-        ensures front { take self.new.front self.new.bytes ≡ take self.old.front self.old.bytes }
-        ensures line { take self.new.length self.new.bytes ≡ take self.old.front self.old.bytes }
-    {
-        self.length = self.front;
-    }
-
-    pub fn is_empty(&self) -> bool
-        ensures { result ≡ (length (take self.now.length self.now.bytes) == length (take self.now.front self.now.bytes)) }
-    {
-        self.length == self.front
-    }
-}
 
 // Each line that ends among the bytes is answered. A line that is refused ends it.
 fn take_in<const ROOM: usize, F: FnMut(&[u8]) -> io::Result<()>>(
@@ -72,11 +18,11 @@ fn take_in<const ROOM: usize, F: FnMut(&[u8]) -> io::Result<()>>(
 ) -> io::Result<()>
     requires { F.IsAlwaysCallable answer.old }
     ensures callable { F.IsAlwaysCallable answer.new }
-    ensures front { take line.new.front line.new.bytes ≡ take line.old.front line.old.bytes }
-    ensures rest { OnOk result (take line.new.length line.new.bytes
-        ≡ begun ROOM (take line.old.front line.old.bytes) (take line.old.length line.old.bytes) input.now) }
+    ensures front { front_of line.new ≡ front_of line.old }
+    ensures rest { OnOk result (held line.new
+        ≡ begun ROOM (front_of line.old) (held line.old) input.now) }
     ensures answered { OnOk result (Answered F.FnMut answer.old
-        (ended ROOM (take line.old.front line.old.bytes) (take line.old.length line.old.bytes) input.now) answer.new) }
+        (ended ROOM (front_of line.old) (held line.old) input.now) answer.new) }
 {
     for byte in input {
         if *byte == b'\n' {
@@ -96,7 +42,7 @@ pub fn each<const ROOM: usize, R: Read, F: FnMut(&[u8]) -> io::Result<()> + Drop
     mut answer: F,
 ) -> io::Result<()>
     requires { F.IsAlwaysCallable answer }
-    ensures { OnOk result (AllAnswered F.FnMut ROOM (take line.old.front line.old.bytes) (take line.old.length line.old.bytes)
+    ensures { OnOk result (AllAnswered F.FnMut ROOM (front_of line.old) (held line.old)
         answer (R.remaining reader.old)) }
 {
     let mut input = [0u8; CHUNK];

@@ -4,10 +4,12 @@
 
 mod fit;
 mod input;
+mod line;
 mod read;
 mod write;
 
 pub use fit::{Width, copy, cut, narrow, wide};
-pub use input::{Line, each};
+pub use input::each;
+pub use line::Line;
 pub use read::numbers;
 pub use write::text;

@@ -25,6 +25,7 @@ impl Written<'_> {
         ensures written { Puts self.old.length (decimal n) self.old.out.now self.new.length self.new.out.now }
     {
         let mut digits = [0u8; 20];
+        // kept: no clause of std says what `write!` leaves in a buffer that is too short
         let count = io::decimal(u64::from(n), &mut digits);
         self.put(&digits[..count]);
     }
