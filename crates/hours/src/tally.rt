@@ -33,6 +33,7 @@ const ALONE: usize = 4;
 const SUMS: usize = 20;
 
 // The sum that the minutes after a record go to.
+#[tactic(auto, using(crate::proofs::Sets::low_lt))]
 fn slot(moment: Record) -> usize
     ensures value { result ≡ slot_of moment.awake moment.set }
     ensures near { result < SUMS }
@@ -71,6 +72,7 @@ impl Tally {
 
     // After record i. One that is earlier than the one before ends the report; a role that is not in the session is noted where it is
     // the first refusal.
+    #[tactic(auto, using(crate::proofs::Steps::fits_more))]
     pub fn step(&mut self, roles: usize, i: usize, moment: Record) -> Result<(), Refusal>
         requires { roles ≤ base.roles }
         ensures { (rs : List Record) → moment ≡ at rs i → Fine rs roles i self.old → Steps rs roles i self.new result }
@@ -88,6 +90,7 @@ impl Tally {
     }
 
     // The report after the last record.
+    #[tactic(auto, using(crate::proofs::Steps::first_le, crate::proofs::Steps::asleep_le))]
     pub fn finish(&self) -> Result<Figures, Refusal>
         ensures { figures_of base result ≡ finish_of base self.now }
     {

@@ -1,26 +1,18 @@
 -- `Tally::step` meets its contract. Assumes nothing.
-use Prim.Native.Nat.{◌<◌, ◌/◌, ◌^◌}
+use Prim.Native.Nat.{◌/◌, ◌^◌}
 use mathlib.Core.Path.{◌≡◌, refl, ap, ◌∙◌}
 use Rattle.std.specs.Option.{option_or}
 use Rattle.std.specs.Bool.{then_some}
 use lib.Dec.{ltb}
-use native.Mathlib.Omega.{arith}
 use borrow.Author.Rules.{rules}
-use Rattle.hours.proofs.Steps.{fits_more, full_more}
+use Rattle.hours.proofs.Steps.{full_more}
 use Rattle.hours.proofs.Run.{fine_step}
 use Rattle.hours.proofs.tally.Tally.step.Goals as goal
-
-pub overflow_add-self : goal.overflow_add-self
-overflow_add-self c =
-    let t = c.args.self.now in
-    let l = fits_more t.last t.slot t.sums t.near t.full c.args.moment.minute c.if-moment-self.false in
-    let m : c.args.moment.minute < 2 ^ 32 = search rules in
-    omega (arith, l, m)
 
 pub invariant_of-self : goal.invariant_of-self
 invariant_of-self c =
     let t = c.args.self.now in
-    record { near = c.slot-here.ensures.near; full = full_more t.last t.slot t.sums t.near t.full c.args.moment.minute c.if-moment-self.false (search rules) }
+    record { near = c.slot-here.ensures.near; full = full_more t c.args.moment.minute c.if-moment-self.false (search rules) }
 
 pub returns : goal.returns
 returns c rs e f =
