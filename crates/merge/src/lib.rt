@@ -285,8 +285,7 @@ fn part_len(words: &[u16]) -> Option<usize>
     None
 }
 
-// Copies the part or arm list at `a`. It is not inlined, since the frame of a merge, of which one stands for each word of a part, would grow.
-#[inline(never)]
+// Copies the part or arm list at `a`.
 fn copy(src: &[u16], a: usize, out: &mut [u16], at: usize) -> Copied
     ensures { (result ≡ (copy_of src.now a out.old at).res)
         × (out.new ≡ (copy_of src.now a out.old at).out) }
