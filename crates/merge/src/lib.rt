@@ -3,10 +3,10 @@
 // MOST. What these functions do with the words of parts is proved in proofs/Meaning.antt and Joins.antt.
 #![tactic(auto)]
 
-ghost use Rattle.std.specs.Prelude.{IfSome, ◌==◌, ◌≡◌, cond, ◌<◌, ◌≤◌, length};
+ghost use Rattle.std.specs.Prelude.{IfNone, IfSome, ◌==◌, ◌≡◌, cond, ◌<◌, ◌≤◌, length};
 ghost use Rattle.std.specs.List.{list_all};
 ghost use Rattle.parts.specs.mirror.Kinds.{code_of};
-ghost use Rattle.merge.specs.mirror.Merging.{is_arm, is_receive, is_action, inside, kids, ends, copy_of, equal_rule, arm_rule, rule, step_of, step_out, both_ok, merge_of, put_on, behind_of, comes_first, behind_arms, skip_of, shares, common_on, closes, begin_of, put_same, joined_of, join_of};
+ghost use Rattle.merge.specs.mirror.Merging.{is_arm, is_receive, is_action, inside, kids, ends, copy_of, equal_rule, arm_rule, rule, stepped, step_of, step_out, Leaves, merge_of, put_on, behind_of, comes_first, behind_arms, skip_of, shares, common_on, closes, begin_of, put_same, joined_of, join_of};
 
 use parts::Code;
 use table::Table;
@@ -16,25 +16,6 @@ const MOST: usize = Table::ROWS * 2;
 
 // The word of a mark.
 const MARK: u16 = 1;
-
-// How far a copy came: the places behind what it read, and behind what it wrote. `ok`: it is whole.
-// kept: `join` says what stands in both slices where there is no merge, so a merge goes on behind what failed, and needs the places.
-#[derive(Clone, Copy, Debug, PartialEq, Eq)]
-struct Copied {
-    ok: bool,
-    end: usize,
-    at: usize,
-}
-
-// How far a merge came: the places behind what it read on either side, and behind what it wrote. `ok`: it is whole.
-// kept: as for a copy.
-#[derive(Clone, Copy, Debug, PartialEq, Eq)]
-struct Merged {
-    ok: bool,
-    a: usize,
-    b: usize,
-    at: usize,
-}
 
 // Two parts have no merge.
 #[derive(Clone, Copy, Debug, PartialEq, Eq)]
@@ -58,20 +39,13 @@ enum Rule {
     Both,
 }
 
-// The next row of either side, the place of the next word, and how many rows remain.
+// Where a merge stands: the next row of either side, the place of the next word, and how many rows remain.
 #[derive(Clone, Copy, Debug, PartialEq, Eq)]
 struct Rows {
     a: usize,
     b: usize,
     at: usize,
     left: usize,
-}
-
-// The rule of two rows, and the rows behind them.
-#[derive(Clone, Copy, Debug, PartialEq, Eq)]
-struct Step {
-    rule: Rule,
-    next: Rows,
 }
 
 // A place on either side, and how many actions both sides opened before it.
@@ -87,18 +61,6 @@ struct Common {
 struct Places {
     a: usize,
     b: usize,
-}
-
-impl Merged {
-    // What a second walk answers: whole only if the first was.
-    fn only_if(self, ok: bool) -> Merged
-        ensures { result ≡ both_ok ok self }
-    {
-        Merged {
-            ok: ok && self.ok,
-            ..self
-        }
-    }
 }
 
 impl Rows {
@@ -160,12 +122,13 @@ fn rule_of(exact: bool, x: u16, y: u16) -> Option<Rule>
     arm_rule(Code::from(x), Code::from(y))
 }
 
-// The rule of the next rows, and the rows behind them; none where they do not merge. The merge's own row is written: it is the second side's
-// where only that side has the arm.
+// The rule of the next rows, if they merge: then `rows` goes on behind them. The merge's own row is written: it is the second side's where only
+// that side has the arm.
 #[tactic(auto, unfolding(crate::specs::mirror::Merging::step_of, crate::specs::mirror::Merging::step_out))]
-fn first_rows(src: &[u16], exact: bool, rows: Rows, out: &mut [u16]) -> Option<Step>
-    ensures { (result ≡ step_of rows.left exact src.now rows.a rows.b rows.at)
-        × (out.new ≡ step_out rows.left exact src.now rows.a rows.b out.old rows.at) }
+fn first_rows(src: &[u16], exact: bool, rows: &mut Rows, out: &mut [u16]) -> Option<Rule>
+    ensures { (stepped rows.new result ≡ step_of rows.old.left exact src.now rows.old.a rows.old.b rows.old.at)
+        × (out.new ≡ step_out rows.old.left exact src.now rows.old.a rows.old.b out.old rows.old.at)
+        × IfNone result (rows.new ≡ rows.old) }
 {
     if !rows.is_inside(src.len()) {
         return None;
@@ -174,74 +137,43 @@ fn first_rows(src: &[u16], exact: bool, rows: Rows, out: &mut [u16]) -> Option<S
     let y = words::peek(src, rows.b);
     let rule = rule_of(exact, x, y);
     words::poke(out, rows.at, if rule == Some(Rule::Second) { y } else { x });
-    let next = Rows {
-        a: rows.a + 1,
-        b: rows.b + 1,
-        at: rows.at + 1,
-        left: rows.left - 1,
-    };
-    rule.map(|rule| Step { rule, next })
+    if rule.is_some() {
+        rows.a += 1;
+        rows.b += 1;
+        rows.at += 1;
+        rows.left -= 1;
+    }
+    rule
 }
 
 // Merges the part or arm list at `rows.a` with the one at `rows.b`, one level of branches a call, by the rule of the first rows (`rule_of`).
 // Arms stand in rising label order on both sides, and so they do in the merge. `rows.left` falls, so the calls end; the place in `out` rises
-// up to MOST, so they go no deeper than that, whatever `left` is.
-fn merge(src: &[u16], exact: bool, rows: Rows, out: &mut [u16]) -> Merged
-    ensures { (result ≡ (merge_of rows.left exact src.now rows.a rows.b out.old rows.at).res)
-        × (out.new ≡ (merge_of rows.left exact src.now rows.a rows.b out.old rows.at).out) }
+// up to MOST, so they go no deeper than that, whatever `left` is. The answer is whether it is whole: what stands in `out` is promised also
+// where it is not, so a merge goes on behind rows that do not merge.
+fn merge(src: &[u16], exact: bool, rows: &mut Rows, out: &mut [u16]) -> bool
+    ensures { Leaves result rows.new out.new (merge_of rows.old.left exact src.now rows.old.a rows.old.b out.old rows.old.at) }
 {
-    let Some(Step { rule, next }) = first_rows(src, exact, rows, out) else {
-        return Merged {
-            ok: false,
-            a: rows.a,
-            b: rows.b,
-            at: rows.at,
-        };
+    let first = *rows;
+    let Some(rule) = first_rows(src, exact, rows, out) else {
+        return false;
     };
-    let ok;
-    let behind;
-    match rule {
-        Rule::Leaf => {
-            return Merged {
-                ok: true,
-                a: next.a,
-                b: next.b,
-                at: next.at,
-            };
-        }
-        Rule::Inside { exact } => return merge(src, exact, next, out),
+    let left = rows.left;
+    let whole = match rule {
+        Rule::Leaf => return true,
+        Rule::Inside { exact } => return merge(src, exact, rows, out),
         Rule::First => {
-            let one = copy(src, next.a, out, next.at);
-            ok = one.ok;
-            behind = Rows {
-                a: one.end,
-                b: rows.b,
-                at: one.at,
-                left: next.left,
-            };
+            rows.b = first.b;
+            copy(src, &mut rows.a, out, &mut rows.at)
         }
         Rule::Second => {
-            let one = copy(src, next.b, out, next.at);
-            ok = one.ok;
-            behind = Rows {
-                a: rows.a,
-                b: one.end,
-                at: one.at,
-                left: next.left,
-            };
+            rows.a = first.a;
+            copy(src, &mut rows.b, out, &mut rows.at)
         }
-        Rule::Both => {
-            let one = merge(src, false, next, out);
-            ok = one.ok;
-            behind = Rows {
-                a: one.a,
-                b: one.b,
-                at: one.at,
-                left: next.left,
-            };
-        }
-    }
-    merge(src, exact, behind, out).only_if(ok)
+        Rule::Both => merge(src, false, rows, out),
+    };
+    rows.left = left;
+    let rest = merge(src, exact, rows, out);
+    whole && rest
 }
 
 // Puts these words at `at`, as far as `out` reaches. The answer is the place behind them.
@@ -285,36 +217,31 @@ fn part_len(words: &[u16]) -> Option<usize>
     None
 }
 
-// Copies the part or arm list at `a`.
-fn copy(src: &[u16], a: usize, out: &mut [u16], at: usize) -> Copied
-    ensures { (result ≡ (copy_of src.now a out.old at).res)
-        × (out.new ≡ (copy_of src.now a out.old at).out) }
+// Copies the part or arm list at `from`: both places go on behind it. The answer is whether it is whole.
+fn copy(src: &[u16], from: &mut usize, out: &mut [u16], at: &mut usize) -> bool
+    ensures { (record { ok = result; end = from.new; at = at.new } ≡ (copy_of src.now from.old out.old at.old).res)
+        × (out.new ≡ (copy_of src.now from.old out.old at.old).out) }
 {
-    let room = src.len().saturating_sub(a).min(MOST.saturating_sub(at));
+    let room = src
+        .len()
+        .saturating_sub(*from)
+        .min(MOST.saturating_sub(*at));
     if room == 0 {
-        return Copied {
-            ok: false,
-            end: a,
-            at,
-        };
+        return false;
     }
-    let words = &src[a..a + room];
+    let words = &src[*from..*from + room];
     match part_len(words) {
         Some(len) => {
-            put(&words[..len], out, at);
-            Copied {
-                ok: true,
-                end: a + len,
-                at: at + len,
-            }
+            put(&words[..len], out, *at);
+            *from += len;
+            *at += len;
+            true
         }
         None => {
-            put(words, out, at);
-            Copied {
-                ok: false,
-                end: a + room,
-                at: at + room,
-            }
+            put(words, out, *at);
+            *from += room;
+            *at += room;
+            false
         }
     }
 }
@@ -459,21 +386,17 @@ pub fn join(work: &mut [u16], spare: &mut [u16], a: usize, b: usize) -> Result<u
 {
     let start = beginning(work, a, b);
     let from = skip(work, start.a, start.b);
-    let rows = Rows {
+    let mut rows = Rows {
         a: from.a,
         b: from.b,
         at: 0,
         left: spare.len(),
     };
-    let merged = merge(work, false, rows, spare);
-    let made = merged.at.min(spare.len());
+    let whole = merge(work, false, &mut rows, spare);
+    let made = rows.at.min(spare.len());
     let end = put(&spare[..made], work, from.a);
     // a `spare` that is too short has zeros for the words that it lacks
-    let top = fill(work, end, merged.at - made, 0);
+    let top = fill(work, end, rows.at - made, 0);
     let at = fill(work, top, start.marks, MARK);
-    if merged.ok {
-        Ok(at)
-    } else {
-        Err(NoMerge { at })
-    }
+    if whole { Ok(at) } else { Err(NoMerge { at }) }
 }

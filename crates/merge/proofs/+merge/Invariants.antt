@@ -2,4 +2,4 @@
 use Rattle.merge.proofs.+merge.Given as goal
 
 abbrev pub decreases-merge : goal.decreases-merge
-decreases-merge l = l.rows.left
+decreases-merge l = l.rows.now.left
