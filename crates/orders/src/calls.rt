@@ -67,6 +67,8 @@ fn sent(run: Run, answer: Answer<()>, words: &[u16]) -> Said
 }
 
 // `s SENDER RECEIVER LABEL PAYLOAD`
+// kept: `as usize`, here and below, since Rust has no `From<u32>` for it
+#[tactic(auto, using(crate::proofs::Replies::no_send))]
 pub fn send(run: Run, numbers: &[u32], words: &[u16]) -> Option<Said>
     ensures { Replies result run words.now words.now (call_order base (keeps run words.now) 115 numbers.now) }
 {
@@ -105,6 +107,7 @@ fn received(run: Run, answer: Answer<Message>, words: &[u16]) -> Said
 }
 
 // `r SENDER RECEIVER`
+#[tactic(auto, using(crate::proofs::Replies::no_receive))]
 pub fn receive(run: Run, numbers: &[u32], words: &[u16]) -> Option<Said>
     ensures { Replies result run words.now words.now (call_order base (keeps run words.now) 114 numbers.now) }
 {

@@ -29,6 +29,7 @@ pub const TEXT: usize = ANSWER * 11;
 pub type Text = [u8; TEXT];
 
 // How many roles, how many words of tables, the state.
+// kept: `words` counts words that are lent, since the promise of `answer` names both
 #[derive(Clone, Copy, Debug, PartialEq, Eq)]
 pub struct Run {
     pub roles: usize,
@@ -52,6 +53,7 @@ pub struct Said {
 }
 
 // How many bytes of text answer a line, and the run after it.
+// kept: `length` counts bytes that are lent, since the promise of `answer` names both
 #[derive(Clone, Copy, Debug, PartialEq, Eq)]
 pub struct Answered {
     pub length: usize,

@@ -57,6 +57,7 @@ fn open_table(run: Run, table: &[u16], roles: usize, room: usize, tables: &mut [
 }
 
 // `o ROLES ROOM WORD...`
+// kept: `as usize`, here and below, since Rust has no `From<u32>` for it
 pub fn open(run: Run, numbers: &[u32], tables: &mut [u16]) -> Option<Said>
     requires { (length tables.old ≡ 65536) × (length numbers.now ≤ 65536) }
     ensures { Replies result run tables.old tables.new (open_order base (keeps run tables.old) numbers.now) }
