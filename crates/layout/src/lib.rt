@@ -1,7 +1,7 @@
 // The codes of a part written as rows of four words.
 #![tactic(auto)]
 
-ghost use Rattle.std.specs.Prelude.{◌≡◌, ◌+◌, ◌-◌, ◌*◌, ◌<◌, ◌≤◌, set};
+ghost use Rattle.std.specs.Prelude.{◌≡◌, ◌+◌, ◌-◌, ◌<◌, ◌≤◌};
 ghost use Rattle.layout.specs.mirror.Lay.{LIMIT, inside, InRange, loop_row, next_row, waits, resume, close_arm, run_s, rest, clear_s, lay_out};
 
 use parts::Code;

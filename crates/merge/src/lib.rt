@@ -3,7 +3,7 @@
 // MOST. What these functions do with the words of parts is proved in proofs/Meaning.antt and Joins.antt.
 #![tactic(auto)]
 
-ghost use Rattle.std.specs.Prelude.{IfNone, IfSome, ◌==◌, ◌≡◌, cond, ◌<◌, ◌≤◌, length};
+ghost use Rattle.std.specs.Prelude.{IfNone, IfSome, ◌==◌, ◌≡◌, ◌<◌, ◌≤◌, length};
 ghost use Rattle.std.specs.List.{list_all};
 ghost use Rattle.parts.specs.mirror.Kinds.{code_of};
 ghost use Rattle.merge.specs.mirror.Merging.{is_arm, is_receive, is_action, inside, kids, ends, copy_of, equal_rule, arm_rule, rule, stepped, step_of, step_out, Leaves, merge_of, put_on, behind_of, comes_first, behind_arms, skip_of, shares, common_on, closes, begin_of, put_same, joined_of, join_of};
