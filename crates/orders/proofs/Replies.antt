@@ -55,12 +55,12 @@ fresh_said run ws ts t a e f g h i =
 
 -- the awaited roles of a state stand behind the other numbers
 pub hand_said : {s : Said} (run : Run) (ws ts vs : List ℕ) (t : Told) (state : Session) (n : ℕ) (w : Awaiting) → w ≡ awaited_of base ts run.roles state → ts ≡ take run.words ws
-    → n ≡ w.number → vs ≡ awaited (awaited_in base (keeps run ws) state) → tells t ≡ n ∷ get_or vs 0 0 ∷ get_or vs 1 0 ∷ get_or vs 2 0 ∷ []
+    → n ≡ w.number → vs ≡ awaited w → tells t ≡ n ∷ get_or vs 0 0 ∷ get_or vs 1 0 ∷ get_or vs 2 0 ∷ []
     → s ≡ said_of run t state → Says s ws (handed base (keeps run ws) state)
 unfolding handed
 hand_said run ws ts vs t state n w e f g h i j =
     let is : awaited_of base (take run.words ws) run.roles state ≡ w = rw (← f) (sym e) in
-    called run ws (n ∷ awaited (awaited_in base (keeps run ws) state)) t state j (rw h at i) (omega arith) (omega arith) (rw (is, g))
+    called run ws (n ∷ awaited w) t state j (rw h at i) (omega arith) (omega arith) (rw (is, g))
 
 pub sent_said : {s : Said} (run : Run) (ws vs : List ℕ) (t : Told) (a : Answer) (n o : ℕ) → n ≡ a.number → o ≡ a.offered
     → vs ≡ awaited (awaited_in base (keeps run ws) a.state) → tells t ≡ n ∷ o ∷ get_or vs 0 0 ∷ get_or vs 1 0 ∷ get_or vs 2 0 ∷ []

@@ -1,7 +1,7 @@
 // The calls of a session.
 ghost use Rattle.std.specs.Prelude.{◌≡◌, ◌+◌, ◌∷◌};
 ghost use Rattle.table.specs.Limits.{base};
-ghost use Rattle.session.specs.Results.{answered, delivered};
+ghost use Rattle.session.specs.Results.{answered, delivered, told};
 ghost use Rattle.orders.specs.Orders.{awaited, awaited_in, sent, received, call_order};
 ghost use Rattle.orders.specs.Lines.{keeps};
 ghost use Rattle.orders.specs.mirror.Said.{Says, Replies};
@@ -23,13 +23,19 @@ fn heads_told(number: u8, heads: [u16; Session::ROLES]) -> Told
     told
 }
 
-// Who is awaited in that state: the set, how many they are, and the lowest.
+// The awaited roles: the set, how many they are, and the lowest.
+fn roles_told(answer: Answer<Awaited>) -> [u32; 3]
+    ensures { result ≡ awaited (told base answer) }
+{
+    let roles = answer.result.unwrap_or(Awaited::NOBODY);
+    [u32::from(roles.set), roles.count(), roles.lowest()]
+}
+
+// Who is awaited in that state.
 fn waiting(run: Run, state: Session, words: &[u16]) -> [u32; 3]
     ensures { result ≡ awaited (awaited_in base (keeps run words.now) state) }
 {
-    let answer = state.awaited(run.tables(words), run.roles);
-    let roles = answer.result.unwrap_or(Awaited::NOBODY);
-    [u32::from(roles.set), roles.count(), roles.lowest()]
+    roles_told(state.awaited(run.tables(words), run.roles))
 }
 
 // `f`
@@ -51,7 +57,7 @@ pub fn hand(run: Run, numbers: &[u32], words: &[u16]) -> Option<Said>
     let state = read::state_of(numbers)?;
     let answer = state.awaited(run.tables(words), run.roles);
     let number = u32::from(answer.number());
-    let [set, count, lowest] = waiting(run, state, words);
+    let [set, count, lowest] = roles_told(answer);
     Some(run.called(Told::of(&[number, set, count, lowest]), state))
 }
 
