@@ -10,8 +10,8 @@ use native.Mathlib.Omega.{arith}
 use borrow.Author.Tests.{eq-eqb, ne_eqb}
 use Rattle.std.specs.Prelude.{Ok, Err}
 use Rattle.blocks.specs.Block.{PartRow, part_row, block_rows, is_arm, is_head}
-use Rattle.blocks.specs.Head.{onward, follow, arm_then, chain, arms_of, find, lowest_label, ArmAt}
-use Rattle.blocks.specs.mirror.Rows.{said, row_at, chain_at, found_of, lookup}
+use Rattle.blocks.specs.Head.{onward, follow, head, arm_then, chain, arms_of, find, lowest_label, ArmAt}
+use Rattle.blocks.specs.mirror.Rows.{said, row_at, follow_at, chain_at, found_of, lookup}
 use Rattle.blocks.specs.declared.rows.Row.{Row}
 use Rattle.blocks.specs.declared.rows.Row.TheVariants.{End, Arm, Loop, Back, Send, Receive, Other}
 
@@ -43,6 +43,12 @@ pub follow_step : (ts : List ℕ) (roles r : ℕ) {n m : ℕ} (i : ℕ) (w : Row
 unfolding follow
 follow_step ts roles r i w e read = rw (e, read)
 
+-- w is row i of the block that begins at `start`, and n is one more than m
+pub step_at : (ts : List ℕ) (start : ℕ) {n m : ℕ} (i : ℕ) (w : Row) → n ≡ suc m → said w ≡ row_at ts start i
+    → follow_at n ts start i ≡ onward (λ j. follow_at m ts start j) i (said w)
+unfolding follow_at
+step_at ts start i w e read = rw (e, read)
+
 -- w is a Loop or a Back, and leads on to row j
 abbrev pub Onward : Row → ℕ → Type 0
 Onward w j = ((x : ℕ) × (y : ℕ) × (w ≡ Loop j x y)) ⊎ ((x : ℕ) × (y : ℕ) × (w ≡ Back j x y))
@@ -55,6 +61,11 @@ pub follow_on : (ts : List ℕ) (roles r : ℕ) {n m : ℕ} (i j : ℕ) (w : Row
     → follow n ts roles r i ≡ follow m ts roles r j
 unfolding onward
 follow_on ts roles r i j w e read = ⊎_elim (λ (x, y, k). follow_step ts roles r i w e read ∙ rw k) (λ (x, y, k). follow_step ts roles r i w e read ∙ rw k)
+
+pub on_at : (ts : List ℕ) (start : ℕ) {n m : ℕ} (i j : ℕ) (w : Row) → n ≡ suc m → said w ≡ row_at ts start i → Onward w j
+    → follow_at n ts start i ≡ follow_at m ts start j
+unfolding onward
+on_at ts start i j w e read = ⊎_elim (λ (x, y, k). step_at ts start i w e read ∙ rw k) (λ (x, y, k). step_at ts start i w e read ∙ rw k)
 
 chain_more : (ts : List ℕ) (start m i : ℕ) → (i ≡ 0 → ⊥) → chain_at (suc m) ts start i ≡ arm_then (λ j. chain_at m ts start j) (row_at ts start i)
 unfolding chain_at
@@ -94,7 +105,17 @@ unfolding chain_at
 chain_none ts start zero i e = refl
 chain_none ts start (suc n) i e = rw (e, chain_at)
 
--- ---- the chain of a role's block
+-- ---- the head and the chain of a role's block
+
+onward_ext : (f g : ℕ → ℕ) → ((j : ℕ) → f j ≡ g j) → (i : ℕ) (row : PartRow) → onward f i row ≡ onward g i row
+unfolding onward
+onward_ext f g h i (PartRow.End a b c) = refl
+onward_ext f g h i (PartRow.Arm l c n) = refl
+onward_ext f g h i (PartRow.Loop b x y) = h b
+onward_ext f g h i (PartRow.Back j x y) = h j
+onward_ext f g h i (PartRow.Send q a x) = refl
+onward_ext f g h i (PartRow.Receive q a x) = refl
+onward_ext f g h i PartRow.Other = refl
 
 arm_then_ext : (f g : ℕ → List ArmAt) → ((j : ℕ) → f j ≡ g j) → (row : PartRow) → arm_then f row ≡ arm_then g row
 unfolding arm_then
@@ -107,6 +128,15 @@ arm_then_ext f g h (PartRow.Receive q a x) = refl
 arm_then_ext f g h PartRow.Other = refl
 
 module _ (ts : List ℕ) (roles r : ℕ) where
+  follow_at_lem : (n i : ℕ) → follow n ts roles r i ≡ follow_at n ts (r * block_rows ts roles) i
+  unfolding follow follow_at
+  follow_at_lem zero i = refl
+  follow_at_lem (suc n) i = onward_ext (λ j. follow n ts roles r j) (λ j. follow_at n ts (r * block_rows ts roles) j) (λ j. follow_at_lem n j) i (part_row ts roles r i)
+
+  pub head_at : (i : ℕ) → head ts roles r i ≡ follow_at (block_rows ts roles) ts (r * block_rows ts roles) i
+  unfolding head
+  head_at i = follow_at_lem (block_rows ts roles) i
+
   chain_at_lem : (n i : ℕ) → chain n ts roles r i ≡ chain_at n ts (r * block_rows ts roles) i
   unfolding chain chain_at
   chain_at_lem zero i = refl

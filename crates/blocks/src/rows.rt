@@ -3,7 +3,7 @@ ghost use Rattle.std.specs.Prelude.{◌≡◌, ◌*◌, ◌<◌, ◌≤◌, get_
 ghost use Rattle.table.specs.Limits.{base};
 ghost use Rattle.blocks.specs.Block.{part_row_of, part_row, block_rows, is_head};
 ghost use Rattle.blocks.specs.Head.{head, arms_of, find, lowest_label};
-ghost use Rattle.blocks.specs.mirror.Rows.{said, row_at, chain_at, found_of};
+ghost use Rattle.blocks.specs.mirror.Rows.{said, row_at, follow_at, chain_at, found_of};
 
 use table::Table;
 
@@ -43,6 +43,7 @@ impl From<[u16; 4]> for Row {
 
 impl Row {
     // The lowest label of no arm: no label is so high.
+    // kept: a number for none, since what is offered is handed to callers in C as a number
     pub const NOLABEL: u16 = Table::LABELS as u16;
 
     // A Send, a Receive or an End: where a role stands still.
@@ -54,10 +55,33 @@ impl Row {
 }
 
 // A row of the block that begins at row `start`; past the end of the tables its words are 0.
-fn row_at(tables: &[u16], start: usize, row: u16) -> Row
+// kept: docs/landings/ name this function and `head`, so they take any numbers and no block, as `find_arm` does.
+pub fn row_at(tables: &[u16], start: usize, row: usize) -> Row
     ensures { said result ≡ row_at tables.now start row }
 {
-    Row::from(words::row(tables, start.saturating_add(usize::from(row))))
+    Row::from(words::row(tables, start.saturating_add(row)))
+}
+
+// The row that a row's word names.
+fn row_in(tables: &[u16], start: usize, row: u16) -> Row
+    ensures { said result ≡ row_at tables.now start row }
+{
+    row_at(tables, start, usize::from(row))
+}
+
+// The row where a role at `row` comes to stand: on through Loop and Back rows, at most as often as the block has rows.
+#[tactic(auto, unfolding(crate::specs::mirror::Rows::follow_at))]
+pub fn head(tables: &[u16], start: usize, rows: usize, row: u16) -> u16
+    ensures { result ≡ follow_at rows tables.now start row }
+{
+    let mut at = row;
+    for _step in 0..rows {
+        match row_in(tables, start, at) {
+            Row::Loop(on, ..) | Row::Back(on, ..) => at = on,
+            _ => return at,
+        }
+    }
+    at
 }
 
 // The continuation of the arm with that label, in the chain that starts at `first`, of at most that many rows: the one lookup of send,
@@ -79,7 +103,7 @@ pub fn find_arm(
         if arm == 0 {
             return Err(least);
         }
-        let Row::Arm(offered, then, next) = row_at(tables, start, arm) else {
+        let Row::Arm(offered, then, next) = row_in(tables, start, arm) else {
             return Err(least);
         };
         if usize::from(offered) == label {
@@ -132,22 +156,15 @@ impl<'a> Block<'a> {
     pub fn row(&self, row: u16) -> Row
         ensures { said result ≡ part_row self.now.tables.now self.now.roles self.now.role row }
     {
-        row_at(self.tables, usize::from(self.start), row)
+        row_in(self.tables, usize::from(self.start), row)
     }
 
-    // The row where a role at `row` comes to stand: on through Loop and Back rows, at most as often as the block has rows.
-    #[tactic(auto, unfolding(crate::specs::Head::head, crate::specs::Head::follow))]
+    // The row where a role at `row` comes to stand.
     pub fn head(&self, row: u16) -> u16
         ensures { result ≡ head self.now.tables.now self.now.roles self.now.role row }
     {
-        let mut at = row;
-        for _ in 0..self.rows {
-            match self.row(at) {
-                Row::Loop(on, ..) | Row::Back(on, ..) => at = on,
-                _ => return at,
-            }
-        }
-        at
+        let start = usize::from(self.start);
+        head(self.tables, start, usize::from(self.rows), row)
     }
 
     // The lookup of an arm in this block.

@@ -19,14 +19,14 @@ impl<'a> Block<'a> {
     fn to_arm(&self, row: u16, link: u16) -> bool
         ensures { result ≡ to_arm self.now.tables.now self.now.roles self.now.role row link }
     {
-        (row < link) & (link < self.rows) & matches!(self.row(link), Row::Arm(..))
+        (row < link) && (link < self.rows) && matches!(self.row(link), Row::Arm(..))
     }
 
     // A link from a row to a row that is no Arm, of a higher number, inside the block.
     fn to_other(&self, row: u16, link: u16) -> bool
         ensures { result ≡ to_other self.now.tables.now self.now.roles self.now.role row link }
     {
-        (row < link) & (link < self.rows) & !matches!(self.row(link), Row::Arm(..))
+        (row < link) && (link < self.rows) && !matches!(self.row(link), Row::Arm(..))
     }
 
     // After an arm with this label none comes, or one with a higher label.
@@ -37,7 +37,7 @@ impl<'a> Block<'a> {
             return true;
         }
         match self.row(link) {
-            Row::Arm(higher, ..) => (row < link) & (link < self.rows) & (label < higher),
+            Row::Arm(higher, ..) => (row < link) && (link < self.rows) && (label < higher),
             _ => false,
         }
     }
@@ -46,7 +46,7 @@ impl<'a> Block<'a> {
     fn to_loop(&self, row: u16, link: u16) -> bool
         ensures { result ≡ to_loop self.now.tables.now self.now.roles self.now.role row link }
     {
-        (link < row) & matches!(self.row(link), Row::Loop(..))
+        (link < row) && matches!(self.row(link), Row::Loop(..))
     }
 
     // A peer is another role.
@@ -54,7 +54,7 @@ impl<'a> Block<'a> {
         ensures { result ≡ is_peer self.now.roles self.now.role peer }
     {
         let other = usize::from(peer);
-        (other < self.roles) & (other != self.role)
+        (other < self.roles) && (other != self.role)
     }
 
     // The kind of a row chooses the tests of its fields and links.
@@ -63,17 +63,17 @@ impl<'a> Block<'a> {
         ensures { result ≡ row_holds base self.now.tables.now self.now.roles self.now.role row (said part) }
     {
         match part {
-            Row::End(first, second, third) => (first == 0) & (second == 0) & (third == 0),
+            Row::End(first, second, third) => (first == 0) && (second == 0) && (third == 0),
             Row::Arm(label, then, next) => {
                 let low = usize::from(label) < Table::LABELS;
-                (row != 0) & low & self.to_other(row, then) & self.to_next(row, label, next)
+                (row != 0) && low && self.to_other(row, then) && self.to_next(row, label, next)
             }
             Row::Loop(body, second, third) => {
-                self.to_other(row, body) & (second == 0) & (third == 0)
+                self.to_other(row, body) && (second == 0) && (third == 0)
             }
-            Row::Back(to, second, third) => self.to_loop(row, to) & (second == 0) & (third == 0),
+            Row::Back(to, second, third) => self.to_loop(row, to) && (second == 0) && (third == 0),
             Row::Send(peer, first, third) | Row::Receive(peer, first, third) => {
-                self.is_peer(peer) & self.to_arm(row, first) & (third == 0)
+                self.is_peer(peer) && self.to_arm(row, first) && (third == 0)
             }
             Row::Other => false,
         }
@@ -120,7 +120,7 @@ fn block_rows(tables: &[u16], roles: usize) -> Option<u16>
         return None;
     }
     let rows = tables.len() / 4 / roles;
-    if (roles * rows * 4 == tables.len()) & (0 < rows) & (rows <= Table::ROWS) {
+    if (roles * rows * 4 == tables.len()) && (0 < rows) && (rows <= Table::ROWS) {
         Some(rows as u16)
     } else {
         None

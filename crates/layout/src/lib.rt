@@ -10,6 +10,7 @@ use parts::Code;
 const LIMIT: usize = 65535;
 
 // The kind of an arm's row.
+// kept: a word of the format, which is written and not matched on
 const ARM: u16 = 2;
 
 // Where the writing of a part stands.
@@ -179,6 +180,7 @@ fn lay(src: &[u16], code: usize, out: &mut [u16], from: usize, loops: &mut [u16]
         wait: None,
         left: LIMIT,
     };
+    // kept: no index is counted, a turn says where the next one stands
     while at.is_in_range(from) {
         at = turn(src, at, out, from, loops);
     }

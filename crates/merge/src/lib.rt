@@ -15,6 +15,7 @@ use table::Table;
 const MOST: usize = Table::ROWS * 2;
 
 // The word of a mark.
+// kept: whole words are compared with it, also such as no part has.
 const MARK: u16 = 1;
 
 // Two parts have no merge.
@@ -148,8 +149,9 @@ fn first_rows(src: &[u16], exact: bool, rows: &mut Rows, out: &mut [u16]) -> Opt
 
 // Merges the part or arm list at `rows.a` with the one at `rows.b`, one level of branches a call, by the rule of the first rows (`rule_of`).
 // Arms stand in rising label order on both sides, and so they do in the merge. `rows.left` falls, so the calls end; the place in `out` rises
-// up to MOST, so they go no deeper than that, whatever `left` is. The answer is whether it is whole: what stands in `out` is promised also
-// where it is not, so a merge goes on behind rows that do not merge.
+// up to MOST, so they go no deeper than that, whatever `left` is.
+// kept: the answer is whether it is whole, and no Result: what stands in `out` is promised also where it is not, so a merge goes on behind
+// rows that do not merge.
 fn merge(src: &[u16], exact: bool, rows: &mut Rows, out: &mut [u16]) -> bool
     ensures { Leaves result rows.new out.new (merge_of rows.old.left exact src.now rows.old.a rows.old.b out.old rows.old.at) }
 {
@@ -218,6 +220,7 @@ fn part_len(words: &[u16]) -> Option<usize>
 }
 
 // Copies the part or arm list at `from`: both places go on behind it. The answer is whether it is whole.
+// kept: as for a merge, what is copied of a part that is not whole is promised too
 fn copy(src: &[u16], from: &mut usize, out: &mut [u16], at: &mut usize) -> bool
     ensures { (record { ok = result; end = from.new; at = at.new } ≡ (copy_of src.now from.old out.old at.old).res)
         × (out.new ≡ (copy_of src.now from.old out.old at.old).out) }
@@ -292,6 +295,7 @@ fn behind_arms(src: &[u16], a: usize, y: u16) -> usize
     ensures { result ≡ behind_arms src.now a y }
 {
     let mut x = a;
+    // kept: no index is counted, each arm says where the next one stands
     while comes_first(src, x, y) {
         x = behind(src, x + 1);
     }

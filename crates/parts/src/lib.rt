@@ -1,5 +1,5 @@
-// The parts of the roles: definitions and laws, and the words that the code makes a part of. The code stands in reach, chains, merge,
-// projection and layout. A part is one word a row in the order met, kind + KINDS x argument (specs/mirror/Codes.antt).
+// The parts of the roles: definitions and laws, and the words that the code makes a part of. The code stands in merge, projection
+// and layout. A part is one word a row in the order met, kind + KINDS x argument (specs/mirror/Codes.antt).
 #![tactic(auto)]
 
 ghost use Rattle.std.specs.Prelude.{◌≡◌};

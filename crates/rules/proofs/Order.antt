@@ -1,5 +1,5 @@
 -- Rules 4 to 10 in order: what the answer of one of them says of all. Assumes nothing.
-use Prim.Native.Nat.{ℕ, ◌<◌}
+use Prim.Native.Nat.{ℕ, ◌<◌, ◌≤◌}
 use mathlib.Core.Bool.{Bool, true, false, cond, true≢false}
 use mathlib.Core.List.{List, [], ◌∷◌}
 use mathlib.Core.Path.{◌≡◌, refl, sym, ◌∙◌, ap}
@@ -13,7 +13,7 @@ use Rattle.words.specs.Rows.{rows_of}
 use Rattle.words.specs.Below.{lowest}
 use Rattle.words.proofs.Below.{Lowest, found, nowhere, lowest_is}
 use Rattle.table.specs.Limits.{base}
-use Rattle.table.specs.Numbers.{TWICE}
+use Rattle.table.specs.Numbers.{TWICE, UNBOUND}
 use Rattle.table.specs.Rows.{row}
 use Rattle.table.specs.Rules.{Rule, kind, field, link, named, twice, unbound, unguarded, number, breaks, twice_broken}
 use Rattle.table.specs.Check.{Verdict, says, accepted, refused_at, tested}
@@ -55,7 +55,7 @@ module _ (t : List ℕ) (roles : ℕ) where
   abbrev pub Says : Rule → Verdict → Type 0
   Says k v = v ≡ refused_at (number k) (breaks base t roles k) (rows_of t) accepted
 
-  abbrev Keeps : Rule → Type 0
+  abbrev pub Keeps : Rule → Type 0
   Keeps k = (i : ℕ) → i < rows_of t → breaks base t roles k i ≡ false
 
   abbrev over : Rule → Bool
@@ -86,6 +86,11 @@ module _ (t : List ℕ) (roles : ℕ) where
   pub rising_past : Says link accepted → Says named accepted → Rising t
   unfolding breaks
   rising_past l n = rising t (kept link l) (kept named n)
+
+  -- the same where the rules below one behind these are kept
+  pub turn_rising : (n : ℕ) → ((k : Rule) → number k < n → Keeps k) → UNBOUND ≤ n → Rising t
+  unfolding breaks
+  turn_rising n k h = rising t (k link (omega arith)) (k named (omega arith))
 
   module _ (l : Says link accepted) (n : Says named accepted) where
     pub twice_found : (k : ℕ) → IsLeast (λ i. chain_of t (row t i)) (rows_of t) (Some k) → Says twice (says TWICE k)

@@ -87,7 +87,7 @@ fn repeated(words: &[u16], first: usize) -> Option<usize>
     let rows = words.len() / 4;
     let mut row = first;
     let mut passed = 0;
-    // kept: a rule of the project, nested loops over the chain left by a label at the first repeated label
+    // kept: a rule of the project, nested loops over the chain left by a label at the first repeated label; `passed` counts the arms for both
     'chain: loop {
         if row == 0 || rows <= passed {
             break 'chain None;
@@ -116,6 +116,7 @@ fn twice(words: &[u16], row: usize) -> Option<usize>
 }
 
 // The lowest of these over all chains.
+// kept: `filter_map(..).min()` was tried, and its proof did not close
 fn lowest_twice(words: &[u16]) -> Option<usize>
     ensures { IsLeast (λ row. chain_of words.now (row_at words.now row)) (rows_of words.now) result }
 {
@@ -228,7 +229,7 @@ fn refuse_lowest<F: Fn(usize) -> bool>(rule: Rule, rows: usize, broken: F) -> Re
 }
 
 // Rules 4 to 10 in order, each over all rows. Who names each row is found once, in one pass, and how many Loops stand around it in a
-// second. A rule then looks at each row once, TWICE also at each two arms of a chain. So the time of each other rule is linear in the rows.
+// second. A rule then looks at each row once, `Rule::Twice` also at each two arms of a chain. So the time of each other rule is linear in the rows.
 fn rules(words: &[u16], roles: usize) -> Result<(), Refusal>
     requires { FewRows words.now }
     ensures { verdict_of result ≡ tested base words.now roles rules_in_order accepted }

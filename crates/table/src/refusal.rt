@@ -40,6 +40,7 @@ impl From<Rule> for u8 {
 }
 
 // The first rule that is broken, and the row or the role that breaks it, 0 where it is the table as a whole.
+// kept: a place beside each rule, since callers in C and the programs' lines are given one, 0 for the whole
 #[derive(Clone, Copy, Debug, PartialEq, Eq)]
 pub struct Refusal {
     pub rule: Rule,

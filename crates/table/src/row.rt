@@ -90,6 +90,7 @@ impl Row {
     }
 
     // The row that this one leads to: first arm, continuation or body; 0 for none.
+    // kept: 0 for none, here and below, as the table's words have it; rule 7 counts these links by that word
     pub fn near_link(self) -> usize
         ensures { result ≡ near_link (said self) }
     {

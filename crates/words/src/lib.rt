@@ -12,6 +12,7 @@ pub fn peek(words: &[u16], i: usize) -> u16
 }
 
 // The word at i is `word`; nothing is done past the end.
+// kept: by an index, since a proof knows nothing of the slice behind what `get_mut` lends in a pattern
 pub fn poke(words: &mut [u16], i: usize, word: u16)
     ensures { words.new ≡ set words.old i word }
 {
@@ -48,6 +49,7 @@ pub fn row(words: &[u16], row: usize) -> [u16; 4]
 }
 
 // The row holds these four words; nothing is done where it is not wholly inside.
+// kept: word by word, since the proof over `copy_from_slice` did not close
 #[tactic(auto, unfolding(crate::specs::Rows::put_row))]
 pub fn put_row(words: &mut [u16], row: usize, four: [u16; 4])
     ensures { words.new ≡ put_row words.old row (get_or four 0 0) (get_or four 1 0) (get_or four 2 0) (get_or four 3 0) }

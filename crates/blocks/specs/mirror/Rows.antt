@@ -4,7 +4,7 @@ use Rattle.std.proofs.Math.Option.{Option, none, some}
 use Rattle.words.specs.Rows.{word}
 use Rattle.blocks.specs.Block as part
 use Rattle.blocks.specs.Block.{PartRow}
-use Rattle.blocks.specs.Head.{ArmAt, arm_then}
+use Rattle.blocks.specs.Head.{ArmAt, arm_then, onward}
 use Rattle.blocks.specs.declared.rows.Row.{Row}
 use Rattle.blocks.specs.declared.rows.Row.TheVariants.{End, Arm, Loop, Back, Send, Receive, Other}
 
@@ -22,6 +22,11 @@ said Other = part.Other
 abbrev pub row_at : List ℕ → ℕ → ℕ → PartRow
 row_at ts start i =
     let at = start + i in part.part_row_of (word ts at 0) (word ts at 1) (word ts at 2) (word ts at 3)
+
+-- that row, followed n times towards its head
+unfoldable pub follow_at : ℕ → List ℕ → ℕ → ℕ → ℕ
+follow_at zero ts start i = i
+follow_at (suc n) ts start i = onward (λ j. follow_at n ts start j) i (row_at ts start i)
 
 -- the chain of arms that starts at row i of that block, 0 for none; n bounds its length
 unfoldable pub chain_at : ℕ → List ℕ → ℕ → ℕ → List ArmAt
