@@ -8,6 +8,7 @@ ghost use Rattle.blocks.specs.mirror.Rows.{said, row_at, follow_at, chain_at, fo
 use table::Table;
 
 // The first word of a row decides what the other three hold.
+// kept: beside the row of a table, which has other kinds, and whose Back holds a depth and not a row
 #[derive(Clone, Copy, Debug, PartialEq, Eq)]
 pub enum Row {
     // Three unused words.

@@ -23,6 +23,7 @@ impl<'a> Block<'a> {
     }
 
     // A link from a row to a row that is no Arm, of a higher number, inside the block.
+    // kept: beside `to_arm`, since one function with a flag is longer than both
     fn to_other(&self, row: u16, link: u16) -> bool
         ensures { result ≡ to_other self.now.tables.now self.now.roles self.now.role row link }
     {
@@ -98,6 +99,7 @@ impl<'a> Notes<'a> {
         }
     }
 
+    // kept: `all` was tried, and gets no proof, since its closure changes the notes
     fn block_good(&mut self) -> bool
         ensures { (result ≡ every (λ i. row_good base self.old.block.tables.now self.old.block.roles self.old.block.role i) (block_rows self.old.block.tables.now self.old.block.roles))
             × (self.new.block ≡ self.old.block) }

@@ -14,6 +14,7 @@ const LIMIT: usize = 65535;
 const ARM: u16 = 2;
 
 // Where the writing of a part stands.
+// kept: `loops` is lent beside it, since memory is fixed, and `depth` says how much of it is in use.
 // kept: that `wait` is small stays a clause; as a ghost field it would have to be shown of each Walk that the mirrors build.
 #[derive(Clone, Copy, Debug, PartialEq, Eq)]
 struct Walk {

@@ -179,6 +179,7 @@ fn merge(src: &[u16], exact: bool, rows: &mut Rows, out: &mut [u16]) -> bool
 }
 
 // Puts these words at `at`, as far as `out` reaches. The answer is the place behind them.
+// kept: beside `put` of lines, which merge does not stand on
 fn put(words: &[u16], out: &mut [u16], at: usize) -> usize
     ensures { (result ≡ (put_on (length words.now) words.now 0 out.old at).end)
         × (out.new ≡ (put_on (length words.now) words.now 0 out.old at).out) }
@@ -304,6 +305,7 @@ fn behind_arms(src: &[u16], a: usize, y: u16) -> usize
 
 // Where the merge of the parts at `a` and `b` starts. Of two Receives from one role, the arms of the first that come before all of the
 // second's are the merge's first arms and stand where they should.
+// kept: two places in one slice, here and below; `Places` would be built for the call and taken apart in it
 #[tactic(auto, unfolding(crate::specs::mirror::Merging::skip_of))]
 fn skip(src: &[u16], a: usize, b: usize) -> Places
     ensures { result ≡ skip_of src.now a b }

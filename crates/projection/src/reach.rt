@@ -53,6 +53,7 @@ impl Reach {
     }
 
     // What the arms after an Arm reach: nothing where there is none.
+    // kept: 0 for none, as the table's word has it
     fn at_next(found: &[Reach], next: usize) -> Reach
         ensures { result ≡ next_of (placed found.now) next }
     {

@@ -122,6 +122,7 @@ fn to_arm(words: &[u16], row: usize, link: u16) -> bool
 }
 
 // The same to a row that is no Arm.
+// kept: beside `to_arm`, since one function with a flag or a kind to compare with is longer than both
 fn to_other(words: &[u16], row: usize, link: u16) -> bool
     ensures { result ≡ to_other words.now row link }
 {
