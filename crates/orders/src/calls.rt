@@ -39,6 +39,7 @@ fn waiting(run: Run, state: Session, words: &[u16]) -> [u32; 3]
 }
 
 // `f`
+// kept: run, numbers and words side by side in the calls: the state that `h` reads and the tables are other values of each line, and `Run` alone is kept
 pub fn fresh(run: Run, numbers: &[u32], words: &[u16]) -> Option<Said>
     ensures { Replies result run words.now words.now (call_order base (keeps run words.now) 102 numbers.now) }
 {
@@ -99,10 +100,7 @@ fn received(run: Run, answer: Answer<Message>, words: &[u16]) -> Said
 {
     let number = u32::from(answer.number());
     let offered = u32::from(answer.offered());
-    let message = answer.result.unwrap_or(Message {
-        label: 0,
-        payload: 0,
-    });
+    let message = answer.result.unwrap_or(Message::NONE);
     let state = answer.state;
     let [set, count, lowest] = waiting(run, state, words);
     let label = u32::from(message.label);

@@ -17,9 +17,10 @@ use run::Said;
 pub use run::{Answered, LONGEST, Numbers, Run, TEXT, Text, Words, start};
 
 // The order with that letter and those numbers; none for a letter that no order has, or where the numbers are not that order's.
+// kept: `requires`, since the numbers of a line are a slice, whose length no type bounds
 #[tactic(auto, unfolding(crate::specs::Orders::order_of))]
-fn order(letter: u8, run: Run, numbers: &[u32], tables: &mut [u16]) -> Option<Said>
-    requires { (length tables.old ≡ 65536) × (length numbers.now ≤ 65536) }
+fn order(letter: u8, run: Run, numbers: &[u32], tables: &mut Words) -> Option<Said>
+    requires { length numbers.now ≤ 65536 }
     ensures { Replies result run tables.old tables.new (order_of base (keeps run tables.old) letter numbers.now) }
 {
     match letter {
@@ -34,8 +35,7 @@ fn order(letter: u8, run: Run, numbers: &[u32], tables: &mut [u16]) -> Option<Sa
 }
 
 // The order that a line is; none for a malformed line.
-fn obey(run: Run, line: &[u8], numbers: &mut [u32], tables: &mut [u16]) -> Option<Said>
-    requires { (length numbers.old ≡ 65536) × (length tables.old ≡ 65536) }
+fn obey(run: Run, line: &[u8], numbers: &mut Numbers, tables: &mut Words) -> Option<Said>
     ensures { Replies result run tables.old tables.new (reply_to base (keeps run tables.old) line.now) }
 {
     let count = lines::numbers(line, numbers)?;

@@ -38,6 +38,7 @@ pub struct Run {
 }
 
 // The numbers that an order tells before the words of an opening: the first `count`.
+// kept: a buffer of fixed size with its length, since there is no heap
 #[derive(Clone, Copy, Debug, PartialEq, Eq)]
 pub struct Told {
     pub numbers: [u32; TOLD],
@@ -45,6 +46,7 @@ pub struct Told {
 }
 
 // The answer of an order: the numbers that it tells, how many words of the tables follow; and the run after it.
+// kept: `shown` counts words that are lent, as `words` of a run does
 #[derive(Clone, Copy, Debug, PartialEq, Eq)]
 pub struct Said {
     pub told: Told,

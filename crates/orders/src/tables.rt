@@ -7,15 +7,14 @@ ghost use Rattle.orders.specs.Orders.{opened, open_order, table_order};
 ghost use Rattle.orders.specs.Lines.{keeps};
 ghost use Rattle.orders.specs.mirror.Said.{Says, Replies};
 
-use crate::run::{BLOCKS, LONGEST, Run, Said, Told};
+use crate::run::{BLOCKS, LONGEST, Run, Said, Told, Words};
 use session::Session;
 use table::Refusal;
 
 // Opens a table into the first words of `tables`.
 // No opening is refused for a room of BLOCKS words: ROLES roles of ROWS rows are the most that pass rules 1 and 2, which come before the room's rule 3.
 // So a longer room is lent at this length.
-fn lend(table: &[u16], roles: usize, room: usize, tables: &mut [u16]) -> Result<(), Refusal>
-    requires { length tables.old ≡ 65536 }
+fn lend(table: &[u16], roles: usize, room: usize, tables: &mut Words) -> Result<(), Refusal>
     ensures { (verdict_of result ≡ open_of base table.now roles room)
         × OnOk result (take (roles * length table.now) tables.new ≡ blocks table.now roles) }
 {
@@ -24,8 +23,7 @@ fn lend(table: &[u16], roles: usize, room: usize, tables: &mut [u16]) -> Result<
 }
 
 // Refused, an opening leaves no tables.
-fn open_table(run: Run, table: &[u16], roles: usize, room: usize, tables: &mut [u16]) -> Said
-    requires { length tables.old ≡ 65536 }
+fn open_table(run: Run, table: &[u16], roles: usize, room: usize, tables: &mut Words) -> Said
     ensures { Says result tables.new (opened base (keeps run tables.old) roles room table.now) }
 {
     match lend(table, roles, room, tables) {
@@ -58,8 +56,9 @@ fn open_table(run: Run, table: &[u16], roles: usize, room: usize, tables: &mut [
 
 // `o ROLES ROOM WORD...`
 // kept: `as usize`, here and below, since Rust has no `From<u32>` for it
-pub fn open(run: Run, numbers: &[u32], tables: &mut [u16]) -> Option<Said>
-    requires { (length tables.old ≡ 65536) × (length numbers.now ≤ 65536) }
+// kept: `requires`, here and below, since the numbers of a line are a slice, whose length no type bounds
+pub fn open(run: Run, numbers: &[u32], tables: &mut Words) -> Option<Said>
+    requires { length numbers.now ≤ 65536 }
     ensures { Replies result run tables.old tables.new (open_order base (keeps run tables.old) numbers.now) }
 {
     let mut words = [0u16; LONGEST];
@@ -74,8 +73,8 @@ pub fn open(run: Run, numbers: &[u32], tables: &mut [u16]) -> Option<Said>
 }
 
 // `t ROLES WORD...`
-pub fn set(run: Run, numbers: &[u32], tables: &mut [u16]) -> Option<Said>
-    requires { (length tables.old ≡ 65536) × (length numbers.now ≤ 65536) }
+pub fn set(run: Run, numbers: &[u32], tables: &mut Words) -> Option<Said>
+    requires { length numbers.now ≤ 65536 }
     ensures { Replies result run tables.old tables.new (table_order base (keeps run tables.old) numbers.now) }
 {
     let (roles, words) = numbers.split_first()?;

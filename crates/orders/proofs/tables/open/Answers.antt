@@ -12,7 +12,7 @@ returns-in_default c = (open_short _ _ c.in_default.len_below, refl)
 pub returns-then-not-narrow : goal.returns-then-not-narrow
 returns-then-not-narrow c =
     let table = all_behind 2 c.args.numbers.now in
-    (open_wide _ _ c.in-len2-up.len_at_least _ _ table c.requires.1 (length-replicate {A = ℕ} 65536 0) (sym c.narrow.ensures.0 ∙ c.if-not-narrow.true), refl)
+    (open_wide _ _ c.in-len2-up.len_at_least _ _ table c.requires (length-replicate {A = ℕ} 65536 0) (sym c.narrow.ensures.0 ∙ c.if-not-narrow.true), refl)
 
 pub returns : goal.returns
 returns c =

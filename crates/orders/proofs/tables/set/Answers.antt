@@ -13,7 +13,7 @@ pub returns-then-not-narrow : goal.returns-then-not-narrow
 returns-then-not-narrow c =
     let split = c.in_ok-roles.ensures.cases in
     let behind : c.in_ok-roles.words.now ≡ drop 1 c.args.numbers.now = rw split.0 in
-    set_wide c.args.run c.args.numbers.now c.args.tables.now (omega (arith, split.1)) behind c.narrow.ensures.1 c.requires.1 c.requires.0 (sym c.narrow.ensures.0 ∙ c.if-not-narrow.true)
+    set_wide c.args.run c.args.numbers.now c.args.tables.now (omega (arith, split.1)) behind c.narrow.ensures.1 c.requires c.told-tables (sym c.narrow.ensures.0 ∙ c.if-not-narrow.true)
 
 pub returns : goal.returns
 returns c =
