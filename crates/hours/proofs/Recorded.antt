@@ -1,6 +1,6 @@
 -- The records that three arrays make, and the tally of them. Assumes nothing.
 use Prim.Native.Nat.{ℕ, zero, suc, ◌<◌}
-use mathlib.Core.Bool.{Bool, true, false}
+use mathlib.Core.Bool.{Bool, true, false, ◌&&◌}
 use mathlib.Core.List.{List, [], ◌∷◌}
 use mathlib.Core.Path.{◌≡◌, refl, ap}
 use native.Mathlib.Omega.{arith}
@@ -19,10 +19,20 @@ use Rattle.hours.specs.declared.refusal.Refusal.TheVariants.{Roles, Records}
 use Rattle.std.proofs.Common.{Ok, Err}
 use Rattle.hours.specs.Arrays.{record_of, records_of, one_length, report_of_arrays}
 
-pub lengths : (ms ws ss : List ℕ) → one_length ms ws ss ≡ true → (length ws ≡ length ms) × (length ss ≡ length ms)
-lengths ms ws ss e =
-    let (a, b) = and_both (eqb (length ws) (length ms)) (eqb (length ss) (length ms)) e in
-    (eqb-true (length ws) (length ms) a, eqb-true (length ss) (length ms) b)
+pub even_by : (ms ws ss : List ℕ) → length ws ≡ length ms → length ss ≡ length ms → one_length ms ws ss ≡ true
+even_by ms ws ss a b = rw (a, b) (by_eqb (length ms))
+  where
+    by_eqb : (n : ℕ) → (eqb n n && eqb n n) ≡ true
+    by_eqb n = grind arith
+
+pub uneven_by : (ms ws ss : List ℕ) → (length ws ≡ length ms → length ss ≡ length ms → ⊥) → one_length ms ws ss ≡ false
+uneven_by ms ws ss apart = by_test (one_length ms ws ss) refl
+  where
+    by_test : (b : Bool) → one_length ms ws ss ≡ b → b ≡ false
+    by_test true e =
+        let (a, b) = and_both (eqb (length ws) (length ms)) (eqb (length ss) (length ms)) e in
+        absurd (apart (eqb-true (length ws) (length ms) a) (eqb-true (length ss) (length ms) b))
+    by_test false e = refl
 
 pub records_length : (ms ws ss : List ℕ) → length ws ≡ length ms → length ss ≡ length ms → length (records_of ms ws ss) ≡ length ms
 unfolding records_of

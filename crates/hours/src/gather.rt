@@ -14,7 +14,7 @@ use table::Table;
 pub fn check_roles(roles: usize) -> Result<(), Refusal>
     ensures { result ≡ roles_refused base roles }
 {
-    if (roles < Table::FEWEST_ROLES) | (Table::ROLES < roles) {
+    if roles < Table::FEWEST_ROLES || Table::ROLES < roles {
         Err(Refusal::Roles)
     } else {
         Ok(())

@@ -16,14 +16,13 @@ pub enum Refusal {
 
 impl Refusal {
     // The record that is named, 0 where none is.
+    // kept: 0 for none, since it is what callers get as a number
     pub fn place(self) -> usize
         ensures { result ≡ place_of self }
     {
         match self {
-            Refusal::Roles => 0,
-            Refusal::Records => 0,
-            Refusal::Minute(place) => place,
-            Refusal::Set(place) => place,
+            Refusal::Roles | Refusal::Records => 0,
+            Refusal::Minute(place) | Refusal::Set(place) => place,
         }
     }
 }

@@ -43,7 +43,7 @@ fn slot(moment: Record) -> usize
     }
     match moment.set.count_ones() {
         0 => NOBODY,
-        // kept: `as`, since there is no `From<u32> for usize`
+        // kept: `as`, since there is no `From<u32> for usize`, and `try_from` would leave an `Err` that cannot be
         1 => ALONE + moment.set.trailing_zeros() as usize,
         _ => SEVERAL,
     }

@@ -24,6 +24,7 @@ pub fn cut<T>(items: &[T], n: usize) -> &[T]
 }
 
 // A kind of number that one of 32 bits may be too wide for: words and bytes, and numbers of 32 bits beside them.
+// kept: a trait of its own, since std's `TryFrom<u32>` gives generic code no number back
 pub trait Width: Copy + Drop {
     // The number that a value is, and those of a list of values.
     ghost number: { Self → ℕ };
@@ -58,7 +59,7 @@ impl Width for u16 {
 
     ghost numbers_of_set = { λ xs i x. refl };
 
-    // kept: `as`, since `requires` says that the number fits
+    // kept: `as`, since `requires` says that the number fits; `try_from` would leave an `Err` that cannot be
     fn of(n: u32) -> u16 {
         n as u16
     }
@@ -77,7 +78,7 @@ impl Width for u8 {
 
     ghost numbers_of_set = { λ xs i x. refl };
 
-    // kept: `as`, since `requires` says that the number fits
+    // kept: `as`, since `requires` says that the number fits; `try_from` would leave an `Err` that cannot be
     fn of(n: u32) -> u8 {
         n as u8
     }
@@ -110,6 +111,7 @@ fn all_at_most(numbers: &[u32], widest: u32) -> bool
 
 // The numbers as words or bytes at the start of `out`. False where one is too wide for that, or there are more than `out` holds: then
 // nothing is written.
+// kept: the loop writes by index, here and in `wide`, since after `iter_mut` a proof knows the length of `out` and none of its items
 pub fn narrow<T: Width>(numbers: &[u32], out: &mut [T]) -> bool
     ensures { Narrows (T.MAX + 1) numbers.now (T.numbers out.old) result (T.numbers out.new) }
 {

@@ -1,5 +1,5 @@
-// Lines of decimal numbers: read from an input, taken apart, fitted into narrower kinds, written. No function here has a `requires`, but
-// that a closure may be called.
+// Lines of decimal numbers: read from an input, taken apart, fitted into narrower kinds, written. What is
+// required here is that a closure may be called, and in `Width::of` that the number fits.
 #![tactic(auto)]
 
 mod fit;

@@ -39,7 +39,7 @@ fn step(place: Place, byte: u8) -> Place
 }
 
 // A number ends at a blank and is stored at place `at`. Answers the place after it.
-// kept: `out` and `at` side by side, since their promise is that of one place of what was lent
+// kept: `out` and `at` side by side, since a struct of both is no plainer: one private function uses them, and one calls it
 #[tactic(auto, unfolding(crate::specs::mirror::Places::ended_of, crate::specs::Over::behind), using(crate::proofs::Stores::stores, crate::proofs::Stores::past_end, crate::proofs::Stores::none_over))]
 fn store(out: &mut [u32], at: usize, place: Place, byte: u8) -> usize
     ensures { Puts at (ended_of place byte) out.old result out.new }

@@ -6,6 +6,7 @@ ghost use Rattle.lines.specs.Promises.{Puts, Writes};
 use crate::fit;
 
 // The bytes that are lent for a text, and how many of them are written.
+// kept: the bytes are lent, with a length beside them, since there is no heap, and `text` promises the bytes that it leaves as they were
 #[derive(Drop)]
 struct Written<'a> {
     out: &'a mut [u8],
@@ -25,7 +26,7 @@ impl Written<'_> {
         ensures written { Puts self.old.length (decimal n) self.old.out.now self.new.length self.new.out.now }
     {
         let mut digits = [0u8; 20];
-        // kept: no clause of std says what `write!` leaves in a buffer that is too short
+        // kept: the digits by `io`, since no clause of `fmt::Formatter` says how much `write!` leaves in a buffer that is too short
         let count = io::decimal(u64::from(n), &mut digits);
         self.put(&digits[..count]);
     }

@@ -91,7 +91,7 @@ impl Log {
     {
         self.records.clear();
         self.state = match numbers {
-            // kept: `as`, since there is no `From<u32> for usize`
+            // kept: `as`, since there is no `From<u32> for usize`, and `try_from` would leave an `Err` that cannot be
             [roles] => State::Begun(*roles as usize),
             _ => State::Faulty,
         };

@@ -11,6 +11,7 @@ const BLANK: Record = Record {
     set: 0,
 };
 
+// kept: a buffer of fixed size with its length, since there is no heap; what callers see is the list of the records
 #[derive(Drop)]
 pub struct Records {
     items: [Record; ROOM],

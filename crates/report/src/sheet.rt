@@ -6,7 +6,7 @@ use std::fmt;
 const MARKS: u64 = 40;
 
 // Minutes that are a part of a whole.
-#[derive(Clone, Copy)]
+#[derive(Clone, Copy, Debug, PartialEq, Eq)]
 struct Part {
     part: u32,
     whole: u32,
@@ -38,7 +38,7 @@ impl fmt::Display for Part {
 }
 
 // The figures of an accepted log: the bars of the first three are parts of the whole time, the others of the minutes awake.
-#[derive(Clone, Copy)]
+#[derive(Clone, Copy, Debug, PartialEq, Eq)]
 pub struct Sheet {
     pub figures: Figures,
     pub roles: usize,

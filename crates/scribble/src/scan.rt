@@ -22,6 +22,7 @@ pub fn in_name(b: u8) -> bool
 }
 
 // The byte at i, or 0 past the end.
+// kept: the same as `words::peek` over bytes, since std's `Default` is a relation and gives generic code no value to name
 pub fn byte(text: &[u8], i: usize) -> u8
     ensures { result ≡ get_or text.now i 0 }
 {
