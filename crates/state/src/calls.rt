@@ -15,9 +15,7 @@ impl State<'_> {
     fn ground<'t>(&self, tables: &'t [u16], roles: usize) -> Result<Blocks<'t>, Refusal>
         ensures { Stands tables.now roles (ground_of base tables.now roles (seen self.now)) result }
     {
-        let Some(blocks) = Blocks::of(tables, roles) else {
-            return Err(Refusal::Tables);
-        };
+        let blocks = Blocks::of(tables, roles).ok_or(Refusal::Tables)?;
         if self.is_good(&blocks) {
             Ok(blocks)
         } else {

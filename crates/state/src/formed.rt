@@ -15,7 +15,7 @@ use table::Table;
 pub fn are_pair(roles: usize, sender: usize, receiver: usize) -> bool
     ensures { result ≡ are_pair roles sender receiver }
 {
-    (sender < roles) & (receiver < roles) & (sender != receiver)
+    sender < roles && receiver < roles && sender != receiver
 }
 
 impl State<'_> {
@@ -26,7 +26,7 @@ impl State<'_> {
     {
         let head = self.heads[role];
         if role < blocks.roles {
-            (head < blocks.rows) & blocks.block(role).row(head).stands()
+            head < blocks.rows && blocks.block(role).row(head).stands()
         } else {
             head == 0
         }
@@ -52,7 +52,7 @@ impl State<'_> {
         if slot < count {
             usize::from(self.labels[at]) < Table::LABELS
         } else {
-            (self.labels[at] == 0) & (self.payloads[at] == 0)
+            self.labels[at] == 0 && self.payloads[at] == 0
         }
     }
 
@@ -98,7 +98,6 @@ impl State<'_> {
     pub fn is_good(&self, blocks: &Blocks<'_>) -> bool
         ensures { result ≡ state_good base blocks.now.tables.now blocks.now.roles (seen self.now) }
     {
-        let stand = self.heads_good(blocks);
-        stand & self.queues_good(blocks.roles)
+        self.heads_good(blocks) && self.queues_good(blocks.roles)
     }
 }

@@ -42,15 +42,11 @@ impl State<'_> {
         requires { receiver < base.roles }
         ensures { result ≡ send_arm base block.now.tables.now block.now.roles block.now.role first label (held base (seen self.now) block.now.role receiver) }
     {
-        match block.find_arm(first, label) {
-            Err(least) => Err(Refusal::Label(least)),
-            Ok(then) => {
-                if DEPTH <= usize::from(self.count(block.role, receiver)) {
-                    return Err(Refusal::Full);
-                }
-                Ok(block.head(then))
-            }
+        let then = block.find_arm(first, label).map_err(Refusal::Label)?;
+        if DEPTH <= usize::from(self.count(block.role, receiver)) {
+            return Err(Refusal::Full);
         }
+        Ok(block.head(then))
     }
 
     // Rules 15 to 17 for a send of that label, by the role of that block: the kind of its head decides.
@@ -85,10 +81,10 @@ impl State<'_> {
             return Err(Refusal::Empty);
         }
         let label = self.oldest(sender, block.role);
-        match block.find_arm(first, usize::from(label)) {
-            Err(least) => Err(Refusal::Stray(least)),
-            Ok(then) => Ok(block.head(then)),
-        }
+        let then = block
+            .find_arm(first, usize::from(label))
+            .map_err(Refusal::Stray)?;
+        Ok(block.head(then))
     }
 
     // Rules 15, 18 and 19 for a receive by the role of that block.
