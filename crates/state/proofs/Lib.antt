@@ -1,4 +1,5 @@
 pub mod Queues
+pub mod Ranges
 pub mod Turning
 pub mod Sound
 pub mod Judging

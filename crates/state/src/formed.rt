@@ -35,12 +35,7 @@ impl State<'_> {
     fn heads_good(&self, blocks: &Blocks<'_>) -> bool
         ensures { result ≡ every (head_good blocks.now.tables.now blocks.now.roles (seen self.now)) base.roles }
     {
-        for role in 0..Table::ROLES {
-            if !self.head_good(blocks, role) {
-                return false;
-            }
-        }
-        true
+        (0..Table::ROLES).all(|role| self.head_good(blocks, role))
     }
 
     // A slot in use holds a label; an unused slot is 0. `first` is the queue's first slot.
@@ -74,23 +69,13 @@ impl State<'_> {
         requires { sender < base.roles }
         ensures { result ≡ every (queue_good base roles (seen self.now) sender) base.roles }
     {
-        for receiver in 0..Table::ROLES {
-            if !self.queue_good(roles, sender, receiver) {
-                return false;
-            }
-        }
-        true
+        (0..Table::ROLES).all(|receiver| self.queue_good(roles, sender, receiver))
     }
 
     fn queues_good(&self, roles: usize) -> bool
         ensures { result ≡ every (λ p. every (queue_good base roles (seen self.now) p) base.roles) base.roles }
     {
-        for sender in 0..Table::ROLES {
-            if !self.sender_good(roles, sender) {
-                return false;
-            }
-        }
-        true
+        (0..Table::ROLES).all(|sender| self.sender_good(roles, sender))
     }
 
     // The one test of rule 13.
