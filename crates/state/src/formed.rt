@@ -57,12 +57,9 @@ impl State<'_> {
     {
         let count = usize::from(self.count(sender, receiver));
         let at = (sender * Table::ROLES + receiver) * DEPTH;
-        let there = are_pair(roles, sender, receiver);
-        let first = self.slot_good(count, at, 0);
-        let second = self.slot_good(count, at, 1);
-        let third = self.slot_good(count, at, 2);
-        let fourth = self.slot_good(count, at, 3);
-        (count <= DEPTH) & (there | (count == 0)) & (first & second & third & fourth)
+        count <= DEPTH
+            && (are_pair(roles, sender, receiver) || count == 0)
+            && (0..DEPTH).all(|slot| self.slot_good(count, at, slot))
     }
 
     fn sender_good(&self, roles: usize, sender: usize) -> bool
