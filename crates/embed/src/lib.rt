@@ -16,9 +16,10 @@ use session::{Awaited, Message, Refusal, Session};
 fn wrong_number(tables: &[u16], roles: usize) -> u8
     ensures { result ≡ wrong_number base tables.now roles }
 {
-    match Blocks::of(tables, roles) {
-        None => u8::from(Refusal::Tables),
-        Some(_) => u8::from(Refusal::State),
+    if Blocks::of(tables, roles).is_none() {
+        u8::from(Refusal::Tables)
+    } else {
+        u8::from(Refusal::State)
     }
 }
 

@@ -37,6 +37,7 @@ impl Message {
 // The customer's numbers and values of an answer, for those who hand it on as numbers.
 impl<T> Answer<T> {
     // Why the call was refused, or 0 where it was accepted.
+    // kept: a number, since the C interface hands out 0 for an accepted call.
     pub fn number(&self) -> u8
         ensures { result ≡ number_in self.now.result }
     {
@@ -69,6 +70,7 @@ impl Awaited {
     }
 
     // The lowest of them, or Session::ROLES for none.
+    // kept: a number, since the C interface hands out this one for nobody.
     pub fn lowest(self) -> u32
         ensures { result ≡ lowest_in base self.set }
     {

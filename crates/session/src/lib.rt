@@ -15,21 +15,24 @@ ghost use Rattle.session.specs.mirror.Taken.{first_message};
 pub use answers::{Answer, Awaited, Message};
 use blocks::rows::Row;
 use blocks::tables::Blocks;
+use slots::{Counts, Heads, Labels, Payloads};
 pub use state::Refusal;
 use state::State;
 use table::Table;
 
 // Each role's head row, and for each ordered pair of roles (sender x ROLES + receiver) a queue of DEPTH slots, the oldest message in
 // the first.
+// kept: flat arrays of labels and payloads are the customer's form of a state, and the C interface lends a state as these four.
 #[derive(Clone, Copy, Debug, PartialEq, Eq)]
 pub struct Session {
-    pub heads: [u16; Session::ROLES],
-    pub counts: [u8; Session::PAIRS],
-    pub labels: [u8; Session::SLOTS],
-    pub payloads: [u32; Session::SLOTS],
+    pub heads: Heads,
+    pub counts: Counts,
+    pub labels: Labels,
+    pub payloads: Payloads,
 }
 
-// kept: the tables and their roles are two parameters of each call, since its public functions may ask no more of callers than they did.
+// kept: the tables, their roles, sender, receiver and label are plain parameters, since a session's public functions take them so and may
+// ask no more of callers than they did; `put` and `get` hand them on to the tests, and no fact about them holds before rule 14.
 impl Session {
     pub const ROLES: usize = Table::ROLES;
 
@@ -40,6 +43,7 @@ impl Session {
     pub const SLOTS: usize = slots::SLOTS;
 
     // Nothing is offered: no label is so high.
+    // kept: a number, since the C interface hands out this one for no label.
     pub const NOLABEL: u16 = Row::NOLABEL;
 
     // Every role at the head of row 0, the queues empty.
@@ -123,6 +127,7 @@ impl Session {
     }
 
     // The message behind those that the queue holds, and its sender on that row.
+    // kept: the pair as two numbers, as `send` got them; what is asked of them here the tests of the call have proved.
     fn push(&mut self, sender: usize, receiver: usize, label: usize, payload: u32, head: u16)
         requires { (sender < base.roles) × (receiver < base.roles) × (label < base.labels) × (held base self.old sender receiver < base.depth) }
         ensures { self.new ≡ moved (pushed base self.old sender receiver label payload) sender head }

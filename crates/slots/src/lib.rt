@@ -42,6 +42,7 @@ fn put<T: Copy>(column: &mut Column<T>, pair: usize, held: [T; DEPTH])
     ensures { column.new ≡ written base column.old pair held }
 {
     let at = pair * DEPTH;
+    // kept: a part of an array is not made a slice in one step: the borrow checker asks for the whole of it first.
     let words = &mut column[..];
     words[at..at + DEPTH].copy_from_slice(&held);
 }

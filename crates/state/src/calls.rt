@@ -24,6 +24,8 @@ impl State<'_> {
     }
 
     // Rules 12 to 14.
+    // kept: sender and receiver are two numbers here and in the calls below, as a session's public calls take them: no fact about them holds
+    // before rule 14 is tested here.
     fn paired<'t>(
         &self,
         tables: &'t [u16],

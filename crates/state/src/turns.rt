@@ -15,6 +15,8 @@ use table::Table;
 
 impl State<'_> {
     // How many messages a queue holds.
+    // kept: sender and receiver are two numbers here and below: one is a block's role, the other a call's or a row's peer, and rule 13 asks of
+    // each two roles, also where they are no pair. A struct of a tested pair would be none where that cannot be.
     pub fn count(&self, sender: usize, receiver: usize) -> u8
         requires { (sender < base.roles) × (receiver < base.roles) }
         ensures { result ≡ held base (seen self.now) sender receiver }
