@@ -39,7 +39,7 @@ fn waiting(run: Run, state: Session, words: &[u16]) -> [u32; 3]
 }
 
 // `f`
-// kept: run, numbers and words side by side in the calls: the state that `h` reads and the tables are other values of each line, and `Run` alone is kept
+// kept: run, numbers and words side by side, in the tables too: a struct of the three would be made for each line and taken apart in each order
 pub fn fresh(run: Run, numbers: &[u32], words: &[u16]) -> Option<Said>
     ensures { Replies result run words.now words.now (call_order base (keeps run words.now) 102 numbers.now) }
 {
