@@ -21,6 +21,7 @@ pub const TEXT: usize = TOLD * 11;
 pub type Text = [u8; TEXT];
 
 // `?` and a newline.
+// kept: beside the same in orders: one function for both would be no shorter than these two bytes, and public
 pub fn ask(text: &mut [u8]) -> usize
     requires { 2 ≤ length text.old }
     ensures { (take result text.new ≡ 63 ∷ 10 ∷ []) × (result ≡ 2) }

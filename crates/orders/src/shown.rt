@@ -7,6 +7,7 @@ ghost use Rattle.orders.specs.mirror.Said.{most_told, most_shown, most_bytes, te
 use crate::run::{ANSWER, Said};
 
 // `?` and a newline.
+// kept: beside the same in logs: one function for both would be no shorter than these two bytes, and public
 pub fn ask(text: &mut [u8]) -> usize
     requires { 2 ≤ length text.old }
     ensures { (take result text.new ≡ 63 ∷ 10 ∷ []) × (result ≡ 2) }
