@@ -8,6 +8,7 @@ use lib.Dec.{leb}
 use lib.ListN.{length, take, drop, length-drop}
 use borrow.Author.Tests.{le-leb, lt-leb, leb-true, ne_eqb}
 use Rattle.words.proofs.Below.{and_both}
+use Rattle.arrayvec.specs.ArrayVec.{ArrayVec}
 use Rattle.table.specs.Limits.{base}
 use Rattle.table.specs.Check.{Verdict, accepted, says as refusal_says}
 use Rattle.table.specs.Refusals.{number_of}
@@ -20,8 +21,7 @@ use Rattle.orders.specs.Orders.{Kept, number, malformed, opened, tabled, open_or
 use Rattle.orders.specs.Lines.{keeps}
 use Rattle.orders.specs.declared.run.Run.{Run}
 use Rattle.orders.specs.declared.run.Said.{Said}
-use Rattle.orders.specs.declared.run.Told.{Told}
-use Rattle.orders.specs.mirror.Said.{tells, Says, said_over}
+use Rattle.orders.specs.mirror.Said.{Says, said_over}
 use Rattle.orders.proofs.Lists.{over_front, narrowed_is, fits_below}
 use Rattle.orders.proofs.Openings.{few}
 use Rattle.orders.proofs.Replies.{told as told_as}
@@ -71,7 +71,7 @@ module _ (k : Kept) (ns : List ℕ) where
         rw (le-leb 2 (length ns) l, all, ← same, ← i, ← j) said
 
 -- an opening that is accepted, and its words
-pub open_accepted : {s : Said} (run : Run) (told : Told) (t before after : List ℕ) (roles room n : ℕ) → s ≡ said_over run told n roles n → tells told ≡ 0 ∷ 0 ∷ []
+pub open_accepted : {s : Said} (run : Run) (told : ArrayVec ℕ) (t before after : List ℕ) (roles room n : ℕ) → s ≡ said_over run told n roles n → told.items ≡ 0 ∷ 0 ∷ []
     → n ≡ roles * length t → accepted ≡ open_of base t roles room → take (roles * length t) after ≡ blocks t roles
     → Says s after (opened base (keeps run before) roles room t)
 unfolding opened
@@ -80,7 +80,7 @@ open_accepted run told t before after roles room n e h w f g =
     told_as e h (omega arith) (omega arith) small (rw (← f, w, g))
 
 -- and one that is refused
-pub open_refused : {s : Said} (run : Run) (told : Told) (t before after : List ℕ) (roles room n p : ℕ) → s ≡ said_over run told 0 roles 0 → tells told ≡ n ∷ p ∷ []
+pub open_refused : {s : Said} (run : Run) (told : ArrayVec ℕ) (t before after : List ℕ) (roles room n p : ℕ) → s ≡ said_over run told 0 roles 0 → told.items ≡ n ∷ p ∷ []
     → (n ≡ 0 → ⊥) → refusal_says n p ≡ open_of base t roles room → Says s after (opened base (keeps run before) roles room t)
 unfolding opened
 open_refused run told t before after roles room n p e h w f =
@@ -118,8 +118,8 @@ module _ (run : Run) (ns before : List ℕ) (l : 1 ≤ length ns) {ws new : List
       (rw (le-leb 1 (length ns) l, wide), f ∙ words_not ws before g)
 
   -- the tables are set
-  pub set_told : {s : Said} {tab : List ℕ} {roles n : ℕ} (told : Told) → fits 65536 ws before ≡ true → tab ≡ take (length ws) new → roles ≡ number ns 0
-      → n ≡ (fresh_of base tab roles).number → tells told ≡ n ∷ [] → s ≡ said_over run told 0 roles (length ws)
+  pub set_told : {s : Said} {tab : List ℕ} {roles n : ℕ} (told : ArrayVec ℕ) → fits 65536 ws before ≡ true → tab ≡ take (length ws) new → roles ≡ number ns 0
+      → n ≡ (fresh_of base tab roles).number → told.items ≡ n ∷ [] → s ≡ said_over run told 0 roles (length ws)
       → Says s new (table_order base (keeps run before) ns)
   unfolding table_order tabled
   set_told {tab = tab} told g h i k m j =

@@ -1,5 +1,5 @@
 // The calls of a session.
-ghost use Rattle.std.specs.Prelude.{◌≡◌, ◌+◌, ◌∷◌};
+ghost use Rattle.std.specs.Prelude.{◌≡◌, ◌∷◌};
 ghost use Rattle.table.specs.Limits.{base};
 ghost use Rattle.session.specs.Results.{answered, delivered, told};
 ghost use Rattle.orders.specs.Orders.{awaited, awaited_in, sent, received, call_order};
@@ -7,20 +7,17 @@ ghost use Rattle.orders.specs.Lines.{keeps};
 ghost use Rattle.orders.specs.mirror.Said.{Says, Replies};
 
 use crate::read;
-use crate::run::{Run, Said, TOLD, Told};
+use crate::run::{Run, Said, TOLD, Told, tell};
 use session::{Answer, Awaited, Message, Session};
 
 // A number, and every role's head.
 fn heads_told(number: u8, heads: [u16; Session::ROLES]) -> Told
-    ensures { (result.numbers ≡ number ∷ heads) × (result.count ≡ base.roles + 1) }
+    ensures { result.items ≡ number ∷ heads }
 {
-    let mut told = Told {
-        numbers: [0; TOLD],
-        count: TOLD,
-    };
-    told.numbers[0] = u32::from(number);
-    lines::wide(&heads, &mut told.numbers, 1);
-    told
+    let mut numbers = [0; TOLD];
+    numbers[0] = u32::from(number);
+    lines::wide(&heads, &mut numbers, 1);
+    Told::from(numbers)
 }
 
 // The awaited roles: the set, how many they are, and the lowest.
@@ -59,7 +56,7 @@ pub fn hand(run: Run, numbers: &[u32], words: &[u16]) -> Option<Said>
     let answer = state.awaited(run.tables(words), run.roles);
     let number = u32::from(answer.number());
     let [set, count, lowest] = roles_told(answer);
-    Some(run.called(Told::of(&[number, set, count, lowest]), state))
+    Some(run.called(tell(&[number, set, count, lowest]), state))
 }
 
 // A send's number, what it offers, and the awaited roles after it.
@@ -70,7 +67,7 @@ fn sent(run: Run, answer: Answer<()>, words: &[u16]) -> Said
     let offered = u32::from(answer.offered());
     let after = answer.state;
     let [set, count, lowest] = waiting(run, after, words);
-    run.called(Told::of(&[number, offered, set, count, lowest]), after)
+    run.called(tell(&[number, offered, set, count, lowest]), after)
 }
 
 // `s SENDER RECEIVER LABEL PAYLOAD`
@@ -105,7 +102,7 @@ fn received(run: Run, answer: Answer<Message>, words: &[u16]) -> Said
     let [set, count, lowest] = waiting(run, state, words);
     let label = u32::from(message.label);
     run.called(
-        Told::of(&[number, label, message.payload, offered, set, count, lowest]),
+        tell(&[number, label, message.payload, offered, set, count, lowest]),
         state,
     )
 }

@@ -2,12 +2,14 @@
 ghost use Rattle.std.specs.Prelude.{◌≡◌, ◌≤◌, length, take};
 ghost use Rattle.table.specs.Limits.{base};
 ghost use Rattle.orders.specs.Lines.{Starts};
-ghost use Rattle.orders.specs.mirror.Said.{most_told, tells, said_of};
+ghost use Rattle.orders.specs.mirror.Said.{most_told, said_of};
 
+use arrayvec::ArrayVec;
 use session::Session;
 use table::Table;
 
 // The bytes of the longest line. It has fewer numbers than bytes.
+// kept: beside those of logs: the longest lines of two programs, which no rule makes equal; those of more roles would be longer in bench alone
 pub const LONGEST: usize = 65536;
 
 pub type Numbers = [u32; LONGEST];
@@ -37,17 +39,12 @@ pub struct Run {
     pub state: Session,
 }
 
-// The numbers that an order tells before the words of an opening: the first `count`.
-// kept: a buffer of fixed size with its length, since there is no heap
-#[derive(Clone, Copy, Debug, PartialEq, Eq)]
-pub struct Told {
-    pub numbers: [u32; TOLD],
-    pub count: usize,
-}
+// The numbers that an order tells before the words of an opening.
+pub type Told = ArrayVec<u32, TOLD>;
 
 // The answer of an order: the numbers that it tells, how many words of the tables follow; and the run after it.
 // kept: `shown` counts words that are lent, as `words` of a run does
-#[derive(Clone, Copy, Debug, PartialEq, Eq)]
+#[derive(Drop)]
 pub struct Said {
     pub told: Told,
     pub shown: usize,
@@ -97,23 +94,14 @@ impl Run {
     }
 }
 
-impl Told {
-    // These numbers.
-    pub fn of(numbers: &[u32]) -> Told
-        requires { length numbers.now ≤ most_told base }
-        ensures { tells result ≡ numbers.now }
-    {
-        let mut told = [0u32; TOLD];
-        lines::copy(numbers, &mut told);
-        Told {
-            numbers: told,
-            count: numbers.len(),
-        }
+// These numbers.
+pub fn tell(numbers: &[u32]) -> Told
+    requires { length numbers.now ≤ most_told base }
+    ensures { result.items ≡ numbers.now }
+{
+    let mut told = Told::new();
+    for number in numbers {
+        told.push(*number);
     }
-
-    pub fn as_slice(&self) -> &[u32]
-        ensures { result.now ≡ tells self.now }
-    {
-        lines::cut(&self.numbers, self.count)
-    }
+    told
 }

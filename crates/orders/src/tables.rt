@@ -7,7 +7,7 @@ ghost use Rattle.orders.specs.Orders.{opened, open_order, table_order};
 ghost use Rattle.orders.specs.Lines.{keeps};
 ghost use Rattle.orders.specs.mirror.Said.{Says, Replies};
 
-use crate::run::{BLOCKS, LONGEST, Run, Said, Told, Words};
+use crate::run::{BLOCKS, LONGEST, Run, Said, Words, tell};
 use session::Session;
 use table::Refusal;
 
@@ -30,7 +30,7 @@ fn open_table(run: Run, table: &[u16], roles: usize, room: usize, tables: &mut W
         Ok(()) => {
             let words = roles * table.len();
             Said {
-                told: Told::of(&[0, 0]),
+                told: tell(&[0, 0]),
                 shown: words,
                 run: Run {
                     roles,
@@ -42,7 +42,7 @@ fn open_table(run: Run, table: &[u16], roles: usize, room: usize, tables: &mut W
         Err(refusal) => {
             let number = u8::from(refusal.rule);
             Said {
-                told: Told::of(&[u32::from(number), refusal.place as u32]),
+                told: tell(&[u32::from(number), refusal.place as u32]),
                 shown: 0,
                 run: Run {
                     roles,
@@ -84,7 +84,7 @@ pub fn set(run: Run, numbers: &[u32], tables: &mut Words) -> Option<Said>
     }
     let fresh = Session::fresh(lines::cut(tables, words.len()), roles);
     Some(Said {
-        told: Told::of(&[u32::from(fresh.number())]),
+        told: tell(&[u32::from(fresh.number())]),
         shown: 0,
         run: Run {
             roles,

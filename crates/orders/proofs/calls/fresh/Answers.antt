@@ -12,4 +12,4 @@ returns-then-not-is_empty c = (no_fresh _ _ (eqb-false _ 0 (sym c.is_empty.ensur
 pub returns : goal.returns
 returns c =
     let none = eqb-true _ 0 (sym c.is_empty.ensures ∙ c.if-not-is_empty.false) in
-    rw (call_fresh _ _ none) (fresh_said _ _ _ _ (answered base c.fresh-answer.result) c.fresh-answer.ensures c.tables.ensures (c.heads_told.ensures.0 ∙ rw c.number.ensures) c.heads_told.ensures.1 c.called.ensures)
+    rw (call_fresh _ _ none) (fresh_said _ _ _ _ (answered base c.fresh-answer.result) c.fresh-answer.ensures c.tables.ensures (c.heads_told.ensures ∙ rw c.number.ensures) c.called.ensures)

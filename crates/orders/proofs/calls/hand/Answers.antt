@@ -13,4 +13,4 @@ returns c =
     let state = some_of _ _ _ c.in_ok-state.ensures in
     let number = c.from-number.ensures ∙ c.number.ensures in
     rw (call_hand _ _ state.0, ← (state.1))
-    (hand_said _ _ _ _ _ _ _ (told base c.awaited-answer.result) c.awaited-answer.ensures c.tables.ensures number c.roles_told.ensures c.of.ensures c.called.ensures)
+    (hand_said _ _ _ _ _ _ _ (told base c.awaited-answer.result) c.awaited-answer.ensures c.tables.ensures number c.roles_told.ensures c.tell.ensures c.called.ensures)

@@ -7,4 +7,4 @@ use Rattle.orders.proofs.calls.sent.Goals as goal
 
 pub returns : goal.returns
 returns c =
-    sent_said _ _ _ _ (answered base c.args.answer) _ _ (c.from-number.ensures ∙ c.number.ensures) (c.from-offered.ensures ∙ c.offered.ensures) c.waiting.ensures c.of.ensures c.called.ensures
+    sent_said _ _ _ _ (answered base c.args.answer) _ _ (c.from-number.ensures ∙ c.number.ensures) (c.from-offered.ensures ∙ c.offered.ensures) c.waiting.ensures c.tell.ensures c.called.ensures

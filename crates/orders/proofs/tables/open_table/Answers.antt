@@ -15,8 +15,8 @@ overflow_cast-refusal c =
     omega (arith, place, place_small c.args.table.now c.args.roles c.args.room)
 
 pub returns-in-Ok : goal.returns-in-Ok
-returns-in-Ok c = open_accepted c.args.run _ _ c.args.tables.now _ _ _ _ refl c.of.ensures refl c.in-Ok.ensures.0 c.in-Ok.ensures.1
+returns-in-Ok c = open_accepted c.args.run _ _ c.args.tables.now _ _ _ _ refl c.tell.ensures refl c.in-Ok.ensures.0 c.in-Ok.ensures.1
 
 pub returns-in-Err : goal.returns-in-Err
 returns-in-Err c =
-    open_refused c.args.run _ _ c.args.tables.now _ _ _ _ _ refl (c.of-in-Err.ensures ∙ rw (c.from.ensures, c.from-number.ensures)) (rule_number c.in-Err.refusal.rule) c.in-Err.ensures.0
+    open_refused c.args.run _ _ c.args.tables.now _ _ _ _ _ refl (c.tell-in-Err.ensures ∙ rw (c.from.ensures, c.from-number.ensures)) (rule_number c.in-Err.refusal.rule) c.in-Err.ensures.0

@@ -20,5 +20,5 @@ returns c =
     let split = c.in_ok-roles.ensures.cases in
     let behind : c.in_ok-roles.words.now ≡ drop 1 c.args.numbers.now = rw split.0 in
     let roles : c.in_ok-roles.roles.now ≡ number c.args.numbers.now 0 = rw split.0 in
-    set_told c.args.run c.args.numbers.now c.args.tables.now (omega (arith, split.1)) behind c.narrow.ensures.1 c.of.result
-    (sym c.narrow.ensures.0 ∙ c.if-not-narrow.false) c.cut.ensures.items roles (c.from.ensures ∙ (c.number.ensures ∙ rw (← c.fresh-fresh.ensures))) c.of.ensures refl
+    set_told c.args.run c.args.numbers.now c.args.tables.now (omega (arith, split.1)) behind c.narrow.ensures.1 c.tell.result
+    (sym c.narrow.ensures.0 ∙ c.if-not-narrow.false) c.cut.ensures.items roles (c.from.ensures ∙ (c.number.ensures ∙ rw (← c.fresh-fresh.ensures))) c.tell.ensures refl
