@@ -1,6 +1,6 @@
 -- What the code says, read as a reply. Assumes nothing.
 use Prim.Native.Nat.{ℕ, ◌≤◌, ◌<◌}
-use mathlib.Core.Bool.{Bool, true, false, cond, not}
+use mathlib.Core.Bool.{Bool, true, false, cond}
 use mathlib.Core.List.{List, [], ◌∷◌, ◌++◌, append-nil}
 use mathlib.Core.Path.{◌≡◌, refl, sym}
 use native.Mathlib.Omega.{arith}
@@ -10,46 +10,34 @@ use Rattle.std.proofs.Common.{Option, Some, None, Ok, Err}
 use Rattle.std.specs.Result.{result_unwrap_or}
 use Rattle.arrayvec.specs.ArrayVec.{ArrayVec}
 use Rattle.table.specs.Limits.{base}
-use Rattle.blocks.specs.Tables.{tables_good}
 use Rattle.session.specs.Calls.{fresh_of, send_of, receive_of}
 use Rattle.session.specs.Awaited.{awaited_of}
 use Rattle.session.specs.Answers.{Answer, Awaiting}
 use Rattle.session.specs.Results.{label_in, payload_in}
 use Rattle.session.specs.declared.answers.Message.{Message}
 use Rattle.session.specs.declared.Session.{Session}
-use Rattle.session.proofs.First.{length_first}
 use Rattle.orders.specs.Orders.{Kept, Reply, number, malformed, calls, awaited, awaited_in, state_of, is_state, freshened, handed, sent, received, sending, receiving, is_call, call_order}
 use Rattle.orders.specs.Lines.{keeps}
 use Rattle.orders.specs.declared.run.Run.{Run}
 use Rattle.orders.specs.declared.run.Said.{Said}
 use Rattle.orders.specs.mirror.Said.{Says, said_of}
 
-pub told : {s x : Said} {ws ns : List ℕ} {r : Reply} → s ≡ x → x.told.items ≡ ns → 0 < length ns → length ns ≤ 9 → x.shown ≤ 8192
+pub told : {s x : Said} {ws ns : List ℕ} {r : Reply} → s ≡ x → x.told.items ≡ ns → 0 < length ns → x.shown ≤ 8192
     → record { numbers = ns ++ take x.shown ws; kept = keeps x.run ws } ≡ r → Says s ws r
-told e f some few short reply = rw e record { some = rw f some; few = rw f few; short = short; reply = rw f reply }
+told e f some short reply = rw e record { some = rw f some; short = short; reply = rw f reply }
 
 -- numbers told by a call
 pub called : {s : Said} {r : Reply} (run : Run) (ws ns : List ℕ) (t : ArrayVec ℕ) (state : Session) → s ≡ said_of run t state
-    → t.items ≡ ns → 0 < length ns → length ns ≤ 9
+    → t.items ≡ ns → 0 < length ns
     → r ≡ record { numbers = ns; kept = calls (keeps run ws) state } → Says s ws r
-called run ws ns t state e f some few g = told e f some few (omega arith) (rw (g, append-nil ns))
-
--- a fresh session has as many heads as there may be roles
-either : (b : Bool) (x y : Answer) → length x.state.heads ≡ 8 → length y.state.heads ≡ 8 → length (cond b x y).state.heads ≡ 8
-either true x y e f = e
-either false x y e f = f
-
-fresh_heads : (ts : List ℕ) (roles : ℕ) → length (fresh_of base ts roles).state.heads ≡ 8
-unfolding fresh_of
-fresh_heads ts roles = either (not (tables_good base ts roles)) _ _ refl (length_first ts roles 8)
+called run ws ns t state e f some g = told e f some (omega arith) (rw (g, append-nil ns))
 
 pub fresh_said : {s : Said} (run : Run) (ws ts : List ℕ) (t : ArrayVec ℕ) (a : Answer) → a ≡ fresh_of base ts run.roles → ts ≡ take run.words ws
     → t.items ≡ a.number ∷ a.state.heads → s ≡ said_of run t a.state → Says s ws (freshened base (keeps run ws))
 unfolding freshened
 fresh_said run ws ts t a e f g i =
-    let long : length a.state.heads ≡ 8 = rw e (fresh_heads ts run.roles) in
     let fresh : fresh_of base (take run.words ws) run.roles ≡ a = rw (← f) (sym e) in
-    called run ws (a.number ∷ a.state.heads) t a.state i g (omega arith) (omega (arith, long)) (rw fresh)
+    called run ws (a.number ∷ a.state.heads) t a.state i g (omega arith) (rw fresh)
 
 -- the awaited roles of a state stand behind the other numbers
 pub hand_said : {s : Said} (run : Run) (ws ts vs : List ℕ) (t : ArrayVec ℕ) (state : Session) (n : ℕ) (w : Awaiting) → w ≡ awaited_of base ts run.roles state → ts ≡ take run.words ws
@@ -58,14 +46,14 @@ pub hand_said : {s : Said} (run : Run) (ws ts vs : List ℕ) (t : ArrayVec ℕ) 
 unfolding handed
 hand_said run ws ts vs t state n w e f g h i j =
     let is : awaited_of base (take run.words ws) run.roles state ≡ w = rw (← f) (sym e) in
-    called run ws (n ∷ awaited w) t state j (rw h at i) (omega arith) (omega arith) (rw (is, g))
+    called run ws (n ∷ awaited w) t state j (rw h at i) (omega arith) (rw (is, g))
 
 pub sent_said : {s : Said} (run : Run) (ws vs : List ℕ) (t : ArrayVec ℕ) (a : Answer) (n o : ℕ) → n ≡ a.number → o ≡ a.offered
     → vs ≡ awaited (awaited_in base (keeps run ws) a.state) → t.items ≡ n ∷ o ∷ get_or vs 0 0 ∷ get_or vs 1 0 ∷ get_or vs 2 0 ∷ []
     → s ≡ said_of run t a.state → Says s ws (sent base (keeps run ws) a)
 unfolding sent
 sent_said run ws vs t a n o e f g h i =
-    called run ws (n ∷ o ∷ awaited (awaited_in base (keeps run ws) a.state)) t a.state i (rw g at h) (omega arith) (omega arith) (rw (e, f))
+    called run ws (n ∷ o ∷ awaited (awaited_in base (keeps run ws) a.state)) t a.state i (rw g at h) (omega arith) (rw (e, f))
 
 pub received_said : {s : Said} (run : Run) (ws vs : List ℕ) (t : ArrayVec ℕ) (a : Answer) (n l p o : ℕ) → n ≡ a.number → l ≡ a.label → p ≡ a.payload → o ≡ a.offered
     → vs ≡ awaited (awaited_in base (keeps run ws) a.state)
@@ -73,7 +61,7 @@ pub received_said : {s : Said} (run : Run) (ws vs : List ℕ) (t : ArrayVec ℕ)
     → s ≡ said_of run t a.state → Says s ws (received base (keeps run ws) a)
 unfolding received
 received_said run ws vs t a n l p o e f g h i j k =
-    called run ws (n ∷ l ∷ p ∷ o ∷ awaited (awaited_in base (keeps run ws) a.state)) t a.state k (rw i at j) (omega arith) (omega arith) (rw (e, f, g, h))
+    called run ws (n ∷ l ∷ p ∷ o ∷ awaited (awaited_in base (keeps run ws) a.state)) t a.state k (rw i at j) (omega arith) (rw (e, f, g, h))
 
 -- ---- the numbers of each call
 

@@ -77,14 +77,14 @@ pub open_accepted : {s : Said} (run : Run) (told : ArrayVec ℕ) (t before after
 unfolding opened
 open_accepted run told t before after roles room n e h w f g =
     let small : n ≤ 8192 = omega (arith, w, few t roles room (sym (ap (λ (x : Verdict). x.number) f))) in
-    told_as e h (omega arith) (omega arith) small (rw (← f, w, g))
+    told_as e h (omega arith) small (rw (← f, w, g))
 
 -- and one that is refused
 pub open_refused : {s : Said} (run : Run) (told : ArrayVec ℕ) (t before after : List ℕ) (roles room n p : ℕ) → s ≡ said_over run told 0 roles 0 → told.items ≡ n ∷ p ∷ []
     → (n ≡ 0 → ⊥) → refusal_says n p ≡ open_of base t roles room → Says s after (opened base (keeps run before) roles room t)
 unfolding opened
 open_refused run told t before after roles room n p e h w f =
-    told_as e h (omega arith) (omega arith) (omega arith) (rw (← f, ne_eqb n 0 w))
+    told_as e h (omega arith) (omega arith) (rw (← f, ne_eqb n 0 w))
 
 -- no rule's number is 0
 pub rule_number : (r : Rule) → number_of r ≡ 0 → ⊥
@@ -128,4 +128,4 @@ module _ (run : Run) (ns before : List ℕ) (l : 1 ≤ length ns) {ws new : List
       let same : tab ≡ drop 1 ns = h ∙ (there ∙ e) in
       let kept : take (length ws) new ≡ drop 1 ns = there ∙ e in
       rw (le-leb 1 (length ns) l, all)
-      (told_as j m (omega arith) (omega arith) (omega arith) (rw (kept, k, same, i)))
+      (told_as j m (omega arith) (omega arith) (rw (kept, k, same, i)))

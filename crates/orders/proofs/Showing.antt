@@ -85,6 +85,8 @@ module _ (ts ws old one two : List ℕ) (r : ℕ) (some : 0 < length ts) (room :
   put_text text out c big h i = text_put (ts ++ ws) text out c (omega (arith, long)) (rw long big) (rw put at h) (rw put at i)
 
 -- how much they are
-pub fits_told : (ts ws told tables : List ℕ) (shown : ℕ) → ts ≡ told → ws ≡ take shown tables → 0 < length told → length told ≤ 9 → shown ≤ 8192
+pub fits_told : (ts ws told tables : List ℕ) (shown : ℕ) → ts ≡ told → ws ≡ take shown tables → 0 < length told → length ts ≤ 9 → shown ≤ 8192
     → (0 < length ts) × (length ts + length ws ≤ 8201)
-fits_told ts ws told tables shown e f some few short = rw (e, f, length-take shown tables) (some, omega arith)
+fits_told ts ws told tables shown e f some few short =
+    let less : length told ≤ 9 = rw e at few in
+    rw (e, f, length-take shown tables) (some, omega (arith, less))

@@ -2,7 +2,7 @@
 ghost use Rattle.std.specs.Prelude.{◌≡◌, [], ◌∷◌, ◌++◌, ◌<◌, ◌≤◌, length, take};
 ghost use Rattle.table.specs.Limits.{base};
 ghost use Rattle.orders.specs.Lines.{worded};
-ghost use Rattle.orders.specs.mirror.Said.{most_told, most_shown, most_bytes, says};
+ghost use Rattle.orders.specs.mirror.Said.{most_shown, most_bytes, says};
 
 use crate::run::{ANSWER, Said};
 
@@ -19,7 +19,6 @@ pub fn ask(text: &mut [u8]) -> usize
 // The numbers told and then the words that follow go to the start of `text`.
 pub fn write(said: &Said, tables: &[u16], text: &mut [u8]) -> usize
     requires some { 0 < length said.now.told.items }
-    requires few { length said.now.told.items ≤ most_told base }
     requires short { said.now.shown ≤ most_shown base }
     requires room { length text.old ≡ most_bytes base }
     ensures { (take result text.new ≡ worded (says said.now tables.now).numbers) × (result ≡ length (worded (says said.now tables.now).numbers)) }

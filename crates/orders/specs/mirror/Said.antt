@@ -27,7 +27,6 @@ says s ws = record { numbers = s.told.items ++ take s.shown ws; kept = keeps s.r
 -- it says that reply, which has a number, and there is room for its text
 pub record Says (s : Said) (ws : List ℕ) (r : Reply) : Type 0 where
   pub some : 0 < length s.told.items
-  pub few : length s.told.items ≤ most_told base
   pub short : s.shown ≤ most_shown base
   pub reply : says s ws ≡ r
 
