@@ -10,6 +10,7 @@ use hours::{Figures, arrays};
 use table::Table;
 
 // As many of the figures as there are places.
+// kept: beside `put` and `copy` of lines, since this crate stands on table and hours alone
 fn lay(figures: [u32; Table::ROLES], places: &mut [u32])
     ensures { places.new ≡ laid figures places.old }
 {

@@ -16,7 +16,7 @@ pub use refusal::Refusal;
 
 // One moment of the log: the minute, whether the car is awake from then on, and the roles awaited after that moment's call (role r is the
 // digit of weight 2 to the r).
-#[derive(Clone, Copy, Debug, PartialEq, Eq)]
+#[derive(Clone, Copy, Debug, Default, PartialEq, Eq)]
 pub struct Record {
     pub minute: u32,
     pub awake: bool,

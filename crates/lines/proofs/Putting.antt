@@ -8,7 +8,7 @@ use lib.Dec.{ltb}
 use borrow.Author.Tests.{ltb-true, ltb-false}
 use borrow.Rule.Slice.PartMut.{put_mid}
 use lib.ListN.{length, take, drop, drop_of_length-le}
-use lib.Seq.{take_all, drop-drop}
+use lib.Seq.{take_all, take_at, drop-drop}
 use Rattle.std.proofs.lemmas.List.{take_min}
 use Rattle.lines.specs.Over.{overlaid, behind}
 use Rattle.lines.specs.Promises.{Puts}
@@ -36,3 +36,11 @@ unfolding overlaid behind
 some_put at n k xs old new l e f g =
     let all : take n xs ≡ take (length old - at) xs = rw e (take_min (length old - at) xs) in
     (omega arith, rw (g, f, all, drop-drop n at old, behind_put at n (length xs) old (ltb (length xs) (length old - at)) refl e) (sym (append_assoc (take at old) (take (length old - at) xs) (drop (at + length xs) old))))
+
+-- what was written at the start stands in front
+pub over_front : {A : Type 0} (xs old : List A) → length xs ≤ length old → take (length xs) (overlaid 0 xs old) ≡ xs
+unfolding overlaid
+over_front xs old l =
+    let all : length old - 0 ≡ length old = omega arith in
+    let none : 0 + length xs ≡ length xs = omega arith in
+    rw (all, none, take_all (length old) xs l) (take_at xs (drop (length xs) old) (length xs) refl)

@@ -112,6 +112,7 @@ fn all_at_most(numbers: &[u32], widest: u32) -> bool
 // The numbers as words or bytes at the start of `out`. False where one is too wide for that, or there are more than `out` holds: then
 // nothing is written.
 // kept: the loop writes by index, here and in `wide`, since after `iter_mut` a proof knows the length of `out` and none of its items
+// kept: answers a bool, since its promise `Narrows`, which docs/PROMISES.md names, is over that bool
 pub fn narrow<T: Width>(numbers: &[u32], out: &mut [T]) -> bool
     ensures { Narrows (T.MAX + 1) numbers.now (T.numbers out.old) result (T.numbers out.new) }
 {

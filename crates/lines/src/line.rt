@@ -3,7 +3,7 @@ ghost use Rattle.std.specs.Prelude.{◌≡◌, ◌≤◌, ◌==◌, take, length
 ghost use Rattle.lines.specs.Input.{longer};
 
 // A line that comes in byte by byte behind a front that each line has. What its room does not hold is not kept.
-// kept: a buffer of fixed size with its length, since there is no heap; the front's length is a part of the same bytes
+// kept: no plainer as `ArrayVec<u8, ROOM>`: the front's length and `within` stay beside it, and its `truncate` blanks each byte given up
 #[derive(Drop)]
 pub struct Line<const ROOM: usize> {
     bytes: [u8; ROOM],

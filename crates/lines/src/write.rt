@@ -6,7 +6,7 @@ ghost use Rattle.lines.specs.Promises.{Puts, Writes};
 use crate::fit;
 
 // The bytes that are lent for a text, and how many of them are written.
-// kept: the bytes are lent, with a length beside them, since there is no heap, and `text` promises the bytes that it leaves as they were
+// kept: no `ArrayVec`, which owns its items: these bytes are lent, and `text` promises those that it leaves as they were
 #[derive(Drop)]
 struct Written<'a> {
     out: &'a mut [u8],

@@ -1,12 +1,11 @@
 -- A line that was read: its numbers, and how many. Assumes nothing.
-use Prim.Native.Nat.{ℕ, ◌+◌, ◌-◌, ◌≤◌}
+use Prim.Native.Nat.{ℕ, ◌≤◌}
 use mathlib.Core.Bool.{Bool, true, false, cond}
 use mathlib.Core.List.{List, []}
 use mathlib.Core.Path.{◌≡◌, refl, ◌∙◌}
 use native.Mathlib.Omega.{arith}
 use lib.Dec.{leb}
-use lib.ListN.{length, take, drop}
-use lib.Seq.{take_all, take_at}
+use lib.ListN.{length, take}
 use borrow.Author.Tests.{leb-true}
 use Rattle.words.proofs.Below.{and_both}
 use Rattle.std.proofs.Common.{Option, Some, None}
@@ -14,15 +13,8 @@ use Rattle.std.specs.Option.{unwrap_or}
 use Rattle.lines.specs.Line.{well_formed, numbers_of, count_of}
 use Rattle.lines.specs.Over.{overlaid}
 use Rattle.lines.proofs.Counting.{few_numbers}
+use Rattle.lines.proofs.Putting.{over_front}
 use Rattle.logs.specs.Lines.{LONGEST, is_line, line_numbers}
-
--- what was written stands in front
-pub over_front : (xs old : List ℕ) → length xs ≤ length old → take (length xs) (overlaid 0 xs old) ≡ xs
-unfolding overlaid
-over_front xs old l =
-    let all : length old - 0 ≡ length old = omega arith in
-    let none : 0 + length xs ≡ length xs = omega arith in
-    rw (all, none, take_all (length old) xs l) (take_at xs (drop (length xs) old) (length xs) refl)
 
 module _ (line old new : List ℕ) (long : length old ≡ LONGEST) (written : new ≡ cond (leb (length line) (length old)) (overlaid 0 (numbers_of line) old) old) where
   read_by : (b : Bool) → is_line line ≡ b → let n = unwrap_or (cond b (Some (length (numbers_of line))) None) 0 in (take n new ≡ cond b (numbers_of line) []) × (n ≤ LONGEST)

@@ -24,7 +24,7 @@ use Rattle.logs.specs.Logs.{records, kept_by, keeps, roles_of}
 use Rattle.logs.specs.declared.State.{State}
 use Rattle.logs.specs.declared.State.TheVariants.{Fresh, Faulty, Begun}
 use Rattle.logs.specs.declared.Log.{Log}
-use Rattle.logs.proofs.Reading.{over_front}
+use Rattle.lines.proofs.Putting.{over_front}
 
 -- a number has at most ten digits
 digits_long : (k n : ℕ) → length (digits_of k n) ≤ k

@@ -10,7 +10,7 @@ use Rattle.logs.specs.declared.State.{State}
 use Rattle.logs.specs.declared.State.TheVariants.{Fresh, Faulty, Begun}
 
 abbrev pub records : Log → List Record
-records log = log.records
+records log = log.records.items
 
 abbrev pub kept_by : State → List Record → Kept
 kept_by Fresh rs = fresh

@@ -1,21 +1,24 @@
 // A log as lines of numbers, and the line that answers it. A line is handed over behind a letter and a blank, as `lines` reads it.
 #![tactic(auto)]
 
-mod records;
 mod shown;
 
 ghost use Rattle.std.specs.Prelude.{◌≡◌, ◌≤◌, length, take};
 ghost use Rattle.logs.specs.Lines.{LONGEST, line_numbers};
 ghost use Rattle.logs.specs.mirror.Numbers.{record_in};
 
+use arrayvec::ArrayVec;
 use hours::{Figures, Record, Refusal};
-pub use records::{ROOM, Records};
 pub use shown::{TEXT, Text};
 
 // The bytes of the longest line. It has fewer numbers than bytes.
+// kept: beside those of orders, the longest lines of two programs, which no rule makes equal: a table of more roles needs a longer line
 pub const LONGEST: usize = 65536;
 
 pub type Numbers = [u32; LONGEST];
+
+// One record more than a log may have: a log that is too long is kept so far.
+pub const ROOM: usize = Figures::MOST + 1;
 
 // What the lines so far say: nothing yet; that one of them is malformed; the role count.
 #[derive(Clone, Copy, Debug, PartialEq, Eq)]
@@ -29,7 +32,7 @@ pub enum State {
 #[derive(Drop)]
 pub struct Log {
     pub state: State,
-    pub records: Records,
+    pub records: ArrayVec<Record, ROOM>,
 }
 
 // The numbers of the line, none where it is malformed. They go to the start of `numbers`.
@@ -70,7 +73,7 @@ impl Log {
     {
         Log {
             state: State::Fresh,
-            records: Records::new(),
+            records: ArrayVec::new(),
         }
     }
 
@@ -103,7 +106,8 @@ impl Log {
         ensures { keeps self.new ≡ recorded roles (records self.old) numbers.now }
     {
         match record_in(numbers) {
-            Some(record) => self.records.push(record),
+            // what there is no room for is not kept
+            Some(record) => drop(self.records.try_push(record)),
             None => self.state = State::Faulty,
         }
     }
