@@ -6,7 +6,7 @@ use mathlib.Core.Path.{◌≡◌, refl, sym, ◌∙◌, ap}
 use native.Mathlib.Omega.{arith}
 use lib.Dec.{ltb, eqb}
 use lib.ListN.{length, get_or, take, drop, length-drop, drop_of_length-le}
-use lib.Seq.{take_all, take_at, take-add, drop-drop}
+use lib.Seq.{take_all, take-add, drop-drop}
 use Rattle.std.proofs.Common.{Option, Some, None, get_or-drop}
 use Rattle.std.specs.List.{IsSplitAt}
 use borrow.Author.Tests.{lt-ltb, le-leb, eq-eqb, ne_eqb, eqb-true, eqb-false}
@@ -34,9 +34,6 @@ pub over_all : (ns old : List ℕ) → length ns ≡ length old → overlaid 0 n
 over_all ns old e =
     let long : length old ≤ length ns = omega arith in
     over_start ns old (omega arith) ∙ rw (drop_of_length-le old long) (append-nil ns)
-
-pub over_front : (ns old : List ℕ) → length ns ≤ length old → take (length ns) (overlaid 0 ns old) ≡ ns
-over_front ns old l = rw (over_start ns old l) (take_at ns (drop (length ns) old) (length ns) refl)
 
 pub narrowed_is : (bound : ℕ) (ns old : List ℕ) → length ns ≤ length old → all_below bound ns ≡ true → narrowed bound ns old ≡ overlaid 0 ns old
 unfolding narrowed fits

@@ -19,7 +19,7 @@ use Rattle.orders.specs.Lines.{Written, worded, written, is_line, keeps, reply_t
 use Rattle.orders.specs.declared.run.Run.{Run}
 use Rattle.orders.specs.declared.run.Said.{Said}
 use Rattle.orders.specs.mirror.Said.{says, Says}
-use Rattle.orders.proofs.Lists.{over_front}
+use Rattle.lines.proofs.Putting.{over_front}
 use Rattle.orders.proofs.Replies.{none_of, some_of}
 
 -- a letter that no order has

@@ -22,7 +22,8 @@ use Rattle.orders.specs.Lines.{keeps}
 use Rattle.orders.specs.declared.run.Run.{Run}
 use Rattle.orders.specs.declared.run.Said.{Said}
 use Rattle.orders.specs.mirror.Said.{Says, said_over}
-use Rattle.orders.proofs.Lists.{over_front, narrowed_is, fits_below}
+use Rattle.lines.proofs.Putting.{over_front}
+use Rattle.orders.proofs.Lists.{narrowed_is, fits_below}
 use Rattle.orders.proofs.Openings.{few}
 use Rattle.orders.proofs.Replies.{told as told_as}
 

@@ -11,7 +11,8 @@ use Rattle.lines.specs.Over.{overlaid, behind}
 use Rattle.lines.specs.Text.{digits_of, decimal, text_of}
 use Rattle.lines.proofs.Stores.{length_over}
 use Rattle.orders.specs.Lines.{worded}
-use Rattle.orders.proofs.Lists.{over_start, over_front}
+use Rattle.lines.proofs.Putting.{over_front}
+use Rattle.orders.proofs.Lists.{over_start}
 
 -- ---- the numbers
 
