@@ -37,7 +37,7 @@ fn waiting(run: Run, state: Session, words: &[u16]) -> [u32; 3]
 
 // `f`
 // kept: run, numbers and words side by side, in the tables too: a struct of the three would be made for each line and taken apart in each order
-pub fn fresh(run: Run, numbers: &[u32], words: &[u16]) -> Option<Said>
+pub(crate) fn fresh(run: Run, numbers: &[u32], words: &[u16]) -> Option<Said>
     ensures { Replies result run words.now words.now (call_order base (keeps run words.now) 102 numbers.now) }
 {
     if !numbers.is_empty() {
@@ -49,7 +49,7 @@ pub fn fresh(run: Run, numbers: &[u32], words: &[u16]) -> Option<Said>
 }
 
 // `h` and the numbers of a state
-pub fn hand(run: Run, numbers: &[u32], words: &[u16]) -> Option<Said>
+pub(crate) fn hand(run: Run, numbers: &[u32], words: &[u16]) -> Option<Said>
     ensures { Replies result run words.now words.now (call_order base (keeps run words.now) 104 numbers.now) }
 {
     let state = read::state_of(numbers)?;
@@ -73,7 +73,7 @@ fn sent(run: Run, answer: Answer<()>, words: &[u16]) -> Said
 // `s SENDER RECEIVER LABEL PAYLOAD`
 // kept: `as usize`, here and below, since Rust has no `From<u32>` for it
 #[tactic(auto, using(crate::proofs::Replies::no_send))]
-pub fn send(run: Run, numbers: &[u32], words: &[u16]) -> Option<Said>
+pub(crate) fn send(run: Run, numbers: &[u32], words: &[u16]) -> Option<Said>
     ensures { Replies result run words.now words.now (call_order base (keeps run words.now) 115 numbers.now) }
 {
     let &[sender, receiver, label, payload] = numbers else {
@@ -109,7 +109,7 @@ fn received(run: Run, answer: Answer<Message>, words: &[u16]) -> Said
 
 // `r SENDER RECEIVER`
 #[tactic(auto, using(crate::proofs::Replies::no_receive))]
-pub fn receive(run: Run, numbers: &[u32], words: &[u16]) -> Option<Said>
+pub(crate) fn receive(run: Run, numbers: &[u32], words: &[u16]) -> Option<Said>
     ensures { Replies result run words.now words.now (call_order base (keeps run words.now) 114 numbers.now) }
 {
     let &[sender, receiver] = numbers else {

@@ -20,7 +20,7 @@ fn array<T: Width, const N: usize>(numbers: &[u32]) -> Option<[T; N]>
 }
 
 // The numbers of a state: heads, counts, labels, payloads. Heads are words, counts and labels are bytes.
-pub fn state_of(numbers: &[u32]) -> Option<Session>
+pub(crate) fn state_of(numbers: &[u32]) -> Option<Session>
     ensures { result ≡ cond (is_state base numbers.now) (Some (state_of base numbers.now)) None }
 {
     let (heads, behind) = numbers.split_at_checked(Session::ROLES)?;

@@ -76,14 +76,14 @@ pub fn start() -> Run
 
 impl Run {
     // The tables: the first words.
-    pub fn tables<'a>(&self, words: &'a [u16]) -> &'a [u16]
+    pub(crate) fn tables<'a>(&self, words: &'a [u16]) -> &'a [u16]
         ensures { result.now ≡ take self.now.words words.now }
     {
         lines::cut(words, self.words)
     }
 
     // A call is answered with numbers alone, and leaves the tables and that state.
-    pub fn called(self, told: Told, state: Session) -> Said
+    pub(crate) fn called(self, told: Told, state: Session) -> Said
         ensures { result ≡ said_of self told state }
     {
         Said {
@@ -95,7 +95,7 @@ impl Run {
 }
 
 // These numbers.
-pub fn tell(numbers: &[u32]) -> Told
+pub(crate) fn tell(numbers: &[u32]) -> Told
     requires { length numbers.now ≤ most_told base }
     ensures { result.items ≡ numbers.now }
 {

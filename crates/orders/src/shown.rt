@@ -8,7 +8,7 @@ use crate::run::{ANSWER, Said};
 
 // `?` and a newline.
 // kept: beside the same in logs: one function for both would be no shorter than these two bytes, and public
-pub fn ask(text: &mut [u8]) -> usize
+pub(crate) fn ask(text: &mut [u8]) -> usize
     requires { 2 ≤ length text.old }
     ensures { (take result text.new ≡ 63 ∷ 10 ∷ []) × (result ≡ 2) }
 {
@@ -17,7 +17,7 @@ pub fn ask(text: &mut [u8]) -> usize
 }
 
 // The numbers told and then the words that follow go to the start of `text`.
-pub fn write(said: &Said, tables: &[u16], text: &mut [u8]) -> usize
+pub(crate) fn write(said: &Said, tables: &[u16], text: &mut [u8]) -> usize
     requires some { 0 < length said.now.told.items }
     requires short { said.now.shown ≤ most_shown base }
     requires room { length text.old ≡ most_bytes base }

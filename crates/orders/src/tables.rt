@@ -57,7 +57,7 @@ fn open_table(run: Run, table: &[u16], roles: usize, room: usize, tables: &mut W
 // `o ROLES ROOM WORD...`
 // kept: `as usize`, here and below, since Rust has no `From<u32>` for it
 // kept: `requires`, here and below, since the numbers of a line are a slice, whose length no type bounds
-pub fn open(run: Run, numbers: &[u32], tables: &mut Words) -> Option<Said>
+pub(crate) fn open(run: Run, numbers: &[u32], tables: &mut Words) -> Option<Said>
     requires { length numbers.now ≤ 65536 }
     ensures { Replies result run tables.old tables.new (open_order base (keeps run tables.old) numbers.now) }
 {
@@ -73,7 +73,7 @@ pub fn open(run: Run, numbers: &[u32], tables: &mut Words) -> Option<Said>
 }
 
 // `t ROLES WORD...`
-pub fn set(run: Run, numbers: &[u32], tables: &mut Words) -> Option<Said>
+pub(crate) fn set(run: Run, numbers: &[u32], tables: &mut Words) -> Option<Said>
     requires { length numbers.now ≤ 65536 }
     ensures { Replies result run tables.old tables.new (table_order base (keeps run tables.old) numbers.now) }
 {
