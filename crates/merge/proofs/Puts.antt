@@ -4,9 +4,10 @@ use mathlib.Core.List.{List, [], ◌∷◌, append_assoc}
 use mathlib.Core.Logic.{◌⊎◌, inl, inr, ⊎_elim}
 use mathlib.Core.Path.{◌≡◌, refl, sym, ◌∙◌}
 use native.Mathlib.Nat.{add-zero, suc-add, zero-add}
+use native.Mathlib.Numerals.{add-one}
 use native.Mathlib.Omega.{arith}
-use lib.ListN.{length, get_or, set, take, drop, replicate, length-set, length-replicate}
-use lib.Seq.{sets, sets-eq, get_or-take}
+use lib.ListN.{length, get_or, set, take, drop, replicate, length-set, length-replicate, drop_of_length-le}
+use lib.Seq.{sets, sets-eq, get_or-take, drop-cons}
 use lib.Dec.{ltb, leb}
 use mathlib.Core.Bool.{Bool, true, false}
 use borrow.Author.Tests.{lt-ltb, le-ltb, ltb-false, leb-true, leb-false}
@@ -147,20 +148,17 @@ put_sets ws o at =
     let g = fills_min (length ws) c (length o - at) o at refl refl in
     rw (part_is ws o at (length o - at) c refl refl) (sets_take c o at ws g.2)
 
-pub put_leaves : (s o new : List ℕ) (at k c : ℕ) → k ≡ length o - at → c ≡ min (length s) k → (c ≡ 0 → ⊥) → new ≡ take c s
-    → (at + c ≡ (put_on (length s) s 0 o at).end) × (put_mid at (at + c - at) o new ≡ (put_on (length s) s 0 o at).out)
-put_leaves s o new at k c e f p h =
-    let g = fills_min (length s) c k o at e f in
-    let n = length-take-le c s g.0 in
-    let z : at + c - at ≡ c = omega arith in
-    let i = part_is s o at k c e f in
-    (rw i, rw (i, z, h) (mid_is at c o (take c s) (sym n) (g.1 (omega arith))))
+-- one word more
+pub put_next : (ws out : List ℕ) (p i : ℕ) → i < length ws → sets (set out p (get_or ws i 0)) (p + 1) (drop (i + 1) ws) ≡ sets out p (drop i ws)
+put_next ws out p i h = rw (add-one p, add-one i, drop-cons ws i 0 h)
 
-pub put_nothing : (s o : List ℕ) (at k c : ℕ) → k ≡ length o - at → c ≡ min (length s) k → c ≡ 0
-    → (at ≡ (put_on (length s) s 0 o at).end) × (o ≡ (put_on (length s) s 0 o at).out)
-put_nothing s o at k c e f z =
-    let i = part_is s o at k c e f in
-    (rw (i, z, add-zero), rw (i, z))
+-- once no word is left
+pub put_done : (s o out : List ℕ) (at k c i : ℕ) → k ≡ length o - at → c ≡ min (length s) k → length (take c s) ≤ i
+    → sets out (at + i) (drop i (take c s)) ≡ sets o at (take c s)
+    → (at + c ≡ (put_on (length s) s 0 o at).end) × (out ≡ (put_on (length s) s 0 o at).out)
+put_done s o out at k c i e f l h =
+    let g = part_is s o at k c e f in
+    (rw g, rw g (rw (drop_of_length-le (take c s) l) at h))
 
 pub fill_leaves : (w n : ℕ) (o new : List ℕ) (at k c : ℕ) → k ≡ length o - at → c ≡ min n k → (c ≡ 0 → ⊥) → new ≡ replicate (length (take (at + c - at) (drop at o))) w
     → (at + c ≡ (put_same w n o at).end) × (put_mid at (at + c - at) o new ≡ (put_same w n o at).out)

@@ -180,15 +180,15 @@ fn merge(src: &[u16], exact: bool, rows: &mut Rows, out: &mut [u16]) -> bool
 
 // Puts these words at `at`, as far as `out` reaches. The answer is the place behind them.
 // kept: beside `put` of lines, which merge does not stand on
+// kept: word by word, since `copy_from_slice` is a call of `memmove` here, a name that the archive for C would need from outside
 fn put(words: &[u16], out: &mut [u16], at: usize) -> usize
     ensures { (result ≡ (put_on (length words.now) words.now 0 out.old at).end)
         × (out.new ≡ (put_on (length words.now) words.now 0 out.old at).out) }
 {
     let count = words.len().min(out.len().saturating_sub(at));
-    if count == 0 {
-        return at;
+    for (i, word) in words[..count].iter().enumerate() {
+        out[at + i] = *word;
     }
-    out[at..at + count].copy_from_slice(&words[..count]);
     at + count
 }
 
