@@ -75,7 +75,7 @@ unfolding numbers_of well_formed
 means letter bs = read_line bs
 
 -- at the line's end its last number is stored
-line_read : (letter : ℕ) (bs old out out' : List ℕ) (at at' : ℕ) (p : Place) (i : ℕ) → length bs ≤ i → suc (length bs) ≤ length old
+pub line_read : (letter : ℕ) (bs old out out' : List ℕ) (at at' : ℕ) (p : Place) (i : ℕ) → length bs ≤ i → suc (length bs) ≤ length old
     → at' ≡ behind at (ended_of p 32) out → out' ≡ overlaid at (ended_of p 32) out → Left bs old out at p i
     → (at' ≡ length (numbers_of (letter ∷ bs))) × (out' ≡ overlaid 0 (numbers_of (letter ∷ bs)) old) × (whole_of p ≡ well_formed (letter ∷ bs))
 unfolding to_store last behind

@@ -1,5 +1,6 @@
 pub mod Below
 pub mod Counting
+pub mod Running
 pub mod Cutting
 pub mod Examples
 pub mod ReadBack

@@ -12,6 +12,7 @@ use borrow.Author.Tests.{ltb-true, ltb-false}
 use lib.ListN.{length, get_or, set, take, drop, length-set, length-append, take-append-drop, drop_of_length-le}
 use lib.Seq.{sets, length-sets, drop-cons, take-nil, take_all, take-suc-set, drop-set-lt, set_out, append_snoc}
 use Rattle.lines.specs.Over.{overlaid, behind}
+use Rattle.lines.specs.Promises.{Puts}
 
 -- one store more
 pub stored : (xs out : List ℕ) (p i : ℕ) → i < length xs
@@ -109,10 +110,19 @@ written at at' xs ys out out' e f =
       place = rw (long, e, length-append xs ys) (omega arith);
     }
 
+-- one byte more is written
+pub byte_written : (bs old : List ℕ) (at i place place' : ℕ) (out : List ℕ) {out' : List ℕ} → i < length bs → Puts place (get_or bs i 0 ∷ []) out place' out'
+    → Same out place (drop i bs) old at bs → Same out' place' (drop (i + 1) bs) old at bs
+byte_written bs old at i place place' out l p s =
+    then (written place place' (get_or bs i 0 ∷ []) (drop (i + 1) bs) out _ p.0 p.1) (rw (drop-cons bs i 0 l, ← (add-one i)) at s)
+
 -- nothing is left
 pub all_written : (at at' : ℕ) (xs out old : List ℕ) → Same out at' [] old at xs → (at' ≡ behind at xs old) × (out ≡ overlaid at xs old)
 unfolding behind
 all_written at at' xs out old s = (omega (arith, s.place), s.list ∙ stores at xs old)
+
+pub bytes_written : (bs old : List ℕ) (at i place : ℕ) (out : List ℕ) → length bs ≤ i → Same out place (drop i bs) old at bs → (place ≡ behind at bs old) × (out ≡ overlaid at bs old)
+bytes_written bs old at i place out l s = all_written at place bs out old (rw (drop_of_length-le bs l) at s)
 
 -- nothing to write
 pub nothing : (at : ℕ) (old : List ℕ) → (at ≡ behind at [] old) × (old ≡ overlaid at [] old)

@@ -1,5 +1,5 @@
 // Numbers as words or bytes, if all fit.
-ghost use Rattle.std.specs.Prelude.{◌≡◌, refl, ℕ, ◌+◌, ◌≤◌, List, length, nat_le, slice_set, take};
+ghost use Rattle.std.specs.Prelude.{◌≡◌, refl, ℕ, ◌+◌, ◌≤◌, ◌%◌, List, length, nat_le, slice_set, take};
 ghost use Rattle.std.specs.List.{list_all};
 ghost use Rattle.lines.specs.Promises.{Puts, Narrows, Copies, Cuts};
 
@@ -36,10 +36,9 @@ pub trait Width: Copy + Drop {
     // The widest number of this kind.
     const MAX: u32;
 
-    // A number of this kind.
+    // A number of this kind: the number itself where it is not too wide, else what is left of it.
     fn of(n: u32) -> Self
-        requires { n ≤ MAX }
-        ensures { number result ≡ n };
+        ensures { number result ≡ n % (MAX + 1) };
 
     ghost length_of_numbers: { (xs : List Self) → length (numbers xs) ≡ length xs };
 
@@ -59,9 +58,9 @@ impl Width for u16 {
 
     ghost numbers_of_set = { λ xs i x. refl };
 
-    // kept: `as`, since `requires` says that the number fits; `try_from` would leave an `Err` that cannot be
+    // kept: `as`, since what is left fits; `try_from` would leave an `Err` that cannot be
     fn of(n: u32) -> u16 {
-        n as u16
+        (n % 65536) as u16
     }
 }
 
@@ -78,9 +77,9 @@ impl Width for u8 {
 
     ghost numbers_of_set = { λ xs i x. refl };
 
-    // kept: `as`, since `requires` says that the number fits; `try_from` would leave an `Err` that cannot be
+    // kept: `as`, since what is left fits; `try_from` would leave an `Err` that cannot be
     fn of(n: u32) -> u8 {
-        n as u8
+        (n % 256) as u8
     }
 }
 

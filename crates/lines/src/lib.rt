@@ -1,5 +1,4 @@
-// Lines of decimal numbers: read from an input, taken apart, fitted into narrower kinds, written. What is
-// required here is that a closure may be called, and in `Width::of` that the number fits.
+// Lines of decimal numbers: read from an input, taken apart, fitted into narrower kinds, written. No function here has a `requires`.
 #![tactic(auto)]
 
 mod fit;
@@ -9,7 +8,7 @@ mod read;
 mod write;
 
 pub use fit::{Width, copy, cut, narrow, wide};
-pub use input::each;
+pub use input::{Answerer, each};
 pub use line::Line;
 pub use read::numbers;
 pub use write::text;

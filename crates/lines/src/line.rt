@@ -1,6 +1,9 @@
 // A line that comes in byte by byte.
 ghost use Rattle.std.specs.Prelude.{◌≡◌, ◌≤◌, ◌==◌, take, length};
 ghost use Rattle.lines.specs.Input.{longer};
+ghost use Rattle.lines.specs.mirror.Runs.{lengthened};
+
+use crate::fit;
 
 // A line that comes in byte by byte behind a front that each line has. What its room does not hold is not kept.
 // kept: no plainer as `ArrayVec<u8, ROOM>`: the front's length and `within` stay beside it, and its `truncate` blanks each byte given up
@@ -39,6 +42,14 @@ impl<const ROOM: usize> Line<ROOM> {
             self.bytes[self.length] = byte;
             self.length += 1;
         }
+    }
+
+    // More bytes.
+    pub(crate) fn extend(&mut self, bytes: &[u8])
+        ensures front { front_of self.new ≡ front_of self.old }
+        ensures line { held self.new ≡ lengthened ROOM (held self.old) bytes.now }
+    {
+        self.length = fit::put(bytes, &mut self.bytes, self.length);
     }
 
     pub fn as_slice(&self) -> &[u8]

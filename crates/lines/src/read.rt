@@ -20,10 +20,8 @@ fn digit(n: u32, byte: u8) -> Place
     if !byte.is_ascii_digit() {
         return Place::Wrong;
     }
-    let digit = u32::from(byte - b'0');
-    n.checked_mul(10)
-        .and_then(|tens| tens.checked_add(digit))
-        .map_or(Place::Wrong, Place::Number)
+    let longer = u64::from(n) * 10 + u64::from(byte - b'0');
+    u32::try_from(longer).map_or(Place::Wrong, Place::Number)
 }
 
 #[tactic(auto, unfolding(crate::specs::mirror::Places::step_of))]

@@ -8,9 +8,9 @@ use Rattle.logs.specs.declared.Log.{Log}
 use Rattle.logs.specs.declared.State.TheVariants.{Fresh, Faulty, Begun}
 
 module _ (log : Log) (line : List ℕ) where
-  pub stays_faulty : log.state ≡ Faulty → keeps log ≡ taken_of (keeps log) line
+  pub stays_faulty : (roles : ℕ) → log.state ≡ Faulty roles → keeps log ≡ taken_of (keeps log) line
   unfolding taken_of
-  stays_faulty e = rw e
+  stays_faulty roles e = rw e
 
   pub takes_count : log.state ≡ Fresh → counted (line_numbers line) ≡ taken_of (keeps log) line
   unfolding taken_of

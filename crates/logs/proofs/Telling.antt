@@ -85,7 +85,7 @@ module _ (lim : Limits) (log : Log) where
     where
       by : (s : State) → roles_of (kept_by s (records log)) ≡ None → answer_of lim (kept_by s (records log)) ≡ 63 ∷ 10 ∷ []
       by Fresh e = refl
-      by Faulty e = refl
+      by (Faulty n) e = refl
       by (Begun roles) e = absurd (grind (arith, e))
 
   pub tells : (roles : ℕ) → roles_of (keeps log) ≡ Some roles → answer_of lim (keeps log) ≡ text_of (told_of (report_of lim (records log) roles))
@@ -94,7 +94,7 @@ module _ (lim : Limits) (log : Log) where
     where
       by : (s : State) → roles_of (kept_by s (records log)) ≡ Some roles → answer_of lim (kept_by s (records log)) ≡ text_of (told_of (report_of lim (records log) roles))
       by Fresh e = absurd (grind (arith, e))
-      by Faulty e = absurd (grind (arith, e))
+      by (Faulty n) e = absurd (grind (arith, e))
       by (Begun n) e = let q : n ≡ roles = grind (arith, e) in ap (λ (k : ℕ). text_of (told_of (report_of lim (records log) k))) q
 
 -- ---- the numbers of a line, put into an array part by part

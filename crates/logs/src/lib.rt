@@ -1,14 +1,15 @@
 // A log as lines of numbers, and the line that answers it. A line is handed over behind a letter and a blank, as `lines` reads it.
 #![tactic(auto)]
 
+mod records;
 mod shown;
 
 ghost use Rattle.std.specs.Prelude.{◌≡◌, ◌≤◌, length, take};
 ghost use Rattle.logs.specs.Lines.{LONGEST, line_numbers};
 ghost use Rattle.logs.specs.mirror.Numbers.{record_in};
 
-use arrayvec::ArrayVec;
 use hours::{Figures, Record, Refusal};
+pub use records::{ROOM, Records};
 pub use shown::{TEXT, Text};
 
 // The bytes of the longest line. It has fewer numbers than bytes.
@@ -17,22 +18,19 @@ pub const LONGEST: usize = 65536;
 
 pub type Numbers = [u32; LONGEST];
 
-// One record more than a log may have: a log that is too long is kept so far.
-pub const ROOM: usize = Figures::MOST + 1;
-
-// What the lines so far say: nothing yet; that one of them is malformed; the role count.
+// What the lines so far say: nothing yet; that one of them is malformed, with the role count, 0 where that is the malformed line; the role count.
 #[derive(Clone, Copy, Debug, PartialEq, Eq)]
 pub enum State {
     Fresh,
-    Faulty,
+    Faulty(usize),
     Begun(usize),
 }
 
 // What is kept of the lines.
-#[derive(Drop)]
+#[derive(Clone, Copy)]
 pub struct Log {
     pub state: State,
-    pub records: ArrayVec<Record, ROOM>,
+    pub records: Records,
 }
 
 // The numbers of the line, none where it is malformed. They go to the start of `numbers`.
@@ -63,8 +61,8 @@ impl Log {
     ghost use Rattle.std.specs.Prelude.{◌≡◌};
     ghost use Rattle.table.specs.Limits.{base};
     ghost use Rattle.hours.specs.Said.{figures_of};
-    ghost use Rattle.logs.specs.Lines.{counted, recorded, taken_of};
-    ghost use Rattle.logs.specs.Logs.{records, keeps, roles_of, Starts, Figured, Answers};
+    ghost use Rattle.logs.specs.Lines.{counted, recorded};
+    ghost use Rattle.logs.specs.Logs.{records, keeps, roles_of, role_count, Starts, Takes, Figured, FiguredFor, Answers};
     ghost use Rattle.logs.specs.declared.State.TheVariants.{Begun};
 
     // Before the first line.
@@ -73,16 +71,16 @@ impl Log {
     {
         Log {
             state: State::Fresh,
-            records: ArrayVec::new(),
+            records: Records::new(),
         }
     }
 
     // One line more.
     pub fn take(&mut self, line: &[u8], numbers: &mut Numbers)
-        ensures { keeps self.new ≡ taken_of (keeps self.old) line.now }
+        ensures { Takes self.old line.now self.new }
     {
         match self.state {
-            State::Faulty => {}
+            State::Faulty(_) => {}
             State::Fresh => self.begin(read(line, numbers)),
             State::Begun(roles) => self.record(roles, read(line, numbers)),
         }
@@ -96,7 +94,7 @@ impl Log {
         self.state = match numbers {
             // kept: `as`, since there is no `From<u32> for usize`, and `try_from` would leave an `Err` that cannot be
             [roles] => State::Begun(*roles as usize),
-            _ => State::Faulty,
+            _ => State::Faulty(0),
         };
     }
 
@@ -106,9 +104,8 @@ impl Log {
         ensures { keeps self.new ≡ recorded roles (records self.old) numbers.now }
     {
         match record_in(numbers) {
-            // what there is no room for is not kept
-            Some(record) => drop(self.records.try_push(record)),
-            None => self.state = State::Faulty,
+            Some(record) => self.records.push(record),
+            None => self.state = State::Faulty(roles),
         }
     }
 
@@ -117,14 +114,32 @@ impl Log {
         ensures { result ≡ roles_of (keeps self.now) }
     {
         match self.state {
-            State::Fresh | State::Faulty => None,
+            State::Fresh | State::Faulty(_) => None,
             State::Begun(roles) => Some(roles),
         }
     }
 
-    // The report of the records that were read, for so many roles.
-    pub fn figures(&self, roles: usize) -> Result<Figures, Refusal>
-        ensures { Figured base self.now roles (figures_of base result) }
+    // The role count that was read, 0 for none.
+    // kept: 0 for none, since the report for none is that for 0 roles, as before the pass
+    fn role_count(&self) -> usize
+        ensures { result ≡ role_count self.now.state }
+    {
+        match self.state {
+            State::Fresh => 0,
+            State::Faulty(roles) | State::Begun(roles) => roles,
+        }
+    }
+
+    // The report of the records that were read, for the role count that was read.
+    pub fn figures(&self) -> Result<Figures, Refusal>
+        ensures { Figured base self.now (figures_of base result) }
+    {
+        self.figures_for(self.role_count())
+    }
+
+    // The same for so many roles.
+    pub fn figures_for(&self, roles: usize) -> Result<Figures, Refusal>
+        ensures { FiguredFor base self.now roles (figures_of base result) }
     {
         hours::report(self.records.as_slice(), roles)
     }
@@ -134,7 +149,7 @@ impl Log {
         ensures { Answers base (keeps self.now) result text.new }
     {
         match self.roles() {
-            Some(roles) => shown::show(self.figures(roles), text),
+            Some(roles) => shown::show(self.figures_for(roles), text),
             None => shown::ask(text),
         }
     }

@@ -5,6 +5,7 @@ use mathlib.Core.Bool.{true}
 use mathlib.Core.Path.{◌≡◌, ◌∙◌}
 use native.Mathlib.Omega.{arith}
 use lib.ListN.{length-set}
+use Rattle.std.proofs.Math.Nat.{mod-eq_of_lt}
 use Rattle.lines.specs.Over.{all_below}
 use Rattle.lines.proofs.Below.{all_of, each_below, no_room, too_wide, all_fit}
 use Rattle.lines.proofs.Stores.{stored, finished}
@@ -21,17 +22,14 @@ returns-then-out-numbers g c =
           too_wide _ c.args.numbers.now old (omega (arith, long)) (all_of _ _ _ _ w.MAX.ensures w.all_at_most.ensures w.if-not-all_at_most.true)
     ]
 
-pub of-requires : goal.of-requires
-of-requires g c =
-    let all : all_below (g.T.Width.MAX + 1) c.args.numbers.now ≡ true = all_of _ _ _ _ c.MAX.ensures c.all_at_most.ensures c.if-not-all_at_most.false in
-    omega (arith, each_below (g.T.Width.MAX + 1) c.args.numbers.now c.loop-i.i all c.loop-i-test.true)
-
 pub loop-i-preserved : goal.loop-i-preserved
 loop-i-preserved g c =
     let was = c.loop-i in
     let t = g.met.T.Width in
     let more = stored c.args.numbers.now (g.T.Width.numbers was.out) was.i was.i c.loop-i-test.true in
-    (simp length-set was.invariant.0, rw (t.numbers_of_set was.out was.i c.of.result, c.of.ensures) (more ∙ was.invariant.1))
+    let all : all_below (g.T.Width.MAX + 1) c.args.numbers.now ≡ true = all_of _ _ _ _ c.MAX.ensures c.all_at_most.ensures c.if-not-all_at_most.false in
+    let low = each_below (g.T.Width.MAX + 1) c.args.numbers.now c.loop-i.i all c.loop-i-test.true in
+    (simp length-set was.invariant.0, rw (t.numbers_of_set was.out was.i c.of.result, c.of.ensures, mod-eq_of_lt low) (more ∙ was.invariant.1))
 
 pub returns : goal.returns
 returns g c =

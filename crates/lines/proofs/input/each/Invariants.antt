@@ -6,8 +6,7 @@ use Rattle.lines.proofs.input.each.Given as goal
 
 abbrev pub invariant-loop-turn : goal.invariant-loop-turn
 invariant-loop-turn g l = record {
-  callable : goal.F-IsAlwaysCallable g l.answer;
   front : front_of l.line ≡ front_of l.initial.line;
-  left : Left g.F.FnMut g.row.ROOM (front_of l.initial.line) (held l.initial.line) l.initial.answer
-      (g.R.Read.remaining l.initial.reader) l._turn (held l.line) l.answer (g.R.Read.remaining l.reader);
+  left : Left g.A.Answerer.took g.row.ROOM (front_of l.initial.line) (held l.initial.line) l.initial.answerer
+      (g.R.Read.remaining l.initial.reader) l._turn (held l.line) l.answerer (g.R.Read.remaining l.reader);
 }

@@ -1,29 +1,30 @@
 -- `lines::input::take_in` meets its contract: the bytes that are left end the same lines as all of them. Assumes nothing.
-use Rattle.std.proofs.Common.{rules, of_calls}
-use Rattle.lines.proofs.Cutting.{uncut, cut_newline, cut_byte, cut_rest, cut_lines}
+use mathlib.Core.Path.{◌∙◌}
+use Rattle.std.proofs.Common.{rules}
+use Rattle.lines.proofs.Cutting.{uncut, behind_newline, cut_run, cut_rest, cut_lines}
 use Rattle.lines.proofs.input.take_in.Goals as goal
-use Rattle.lines.proofs.input.take_in.Goals.{then-byte-eq10+in_ok-answer, else-byte-eq10}
 
-pub loop-byte-init : goal.loop-byte-init
-loop-byte-init g c = record { callable = search rules; cut = uncut _ _ _ _ _ _ }
+pub loop-end-init : goal.loop-end-init
+loop-end-init g c = uncut _ _ _ _ _ _
 
-pub loop-byte-preserved : goal.loop-byte-preserved
-loop-byte-preserved g c =
-    let was = c.loop-byte.invariant.cut in
-    elim c.if-byte-eq10.branch [
-      | then-byte-eq10+in_ok-answer w ↦ rw (w.line-is, w.answer-is) record {
-        callable = search (rules, of_calls);
-        cut = cut_newline _ _ _ _ _ _ _ _ _ _ _ _ _ c.loop-byte-test.true w.if-byte-eq10.true
-            record { shown = w.as_slice.result; shows = w.as_slice.ensures; called = w.in_ok-answer.ensures } w.clear.ensures.front w.clear.ensures.line was;
-      }
-      | else-byte-eq10 w ↦ rw (w.line-is, w.answer-is) record {
-        callable = c.loop-byte.invariant.callable;
-        cut = cut_byte _ _ _ _ _ _ _ _ _ _ _ _ c.loop-byte-test.true w.if-byte-eq10.false w.push.ensures.front w.push.ensures.line was;
-      }
-    ]
+pub returns-in_err-answer-clause-front : goal.returns-in_err-answer-clause-front
+returns-in_err-answer-clause-front g c = c.extend.ensures.front ∙ c.loop-end.invariant.same
+
+pub loop-end-smaller : goal.loop-end-smaller
+loop-end-smaller g c = search rules
+
+pub loop-end-preserved : goal.loop-end-preserved
+loop-end-preserved g c =
+    let was = c.loop-end in
+    cut_run _ _ _ _ _ _ was.rest.now _ _ _ _ _ _ _ _ _ _ c.in-Some.ensures.0 c.in-Some.ensures.1 (behind_newline c.in-Some.end was.rest.now _ (search rules)) (search rules)
+    c.extend.ensures.line (rw c.as_slice.ensures at c.in_ok-answer.ensures)
+    (c.clear.ensures.front ∙ c.extend.ensures.front) (c.clear.ensures.line ∙ c.extend.ensures.front) was.invariant
+
+pub returns-clause-front : goal.returns-clause-front
+returns-clause-front g c = c.extend-2.ensures.front ∙ c.loop-end.invariant.same
 
 pub returns-clause-rest : goal.returns-clause-rest
-returns-clause-rest g c = cut_rest _ _ _ _ _ _ _ _ _ _ c.loop-byte-test.false c.loop-byte.invariant.cut
+returns-clause-rest g c = cut_rest _ _ _ _ _ _ _ _ _ _ _ c.in_default.ensures c.extend-2.ensures.line c.loop-end.invariant
 
 pub returns-clause-answered : goal.returns-clause-answered
-returns-clause-answered g c = cut_lines _ _ _ _ _ _ _ _ _ _ c.loop-byte-test.false c.loop-byte.invariant.cut
+returns-clause-answered g c = cut_lines _ _ _ _ _ _ _ _ _ _ c.in_default.ensures c.loop-end.invariant

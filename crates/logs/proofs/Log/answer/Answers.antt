@@ -13,13 +13,13 @@ use Rattle.logs.proofs.Log.answer.Goals as goal
 
 pub show-requires : goal.show-requires
 show-requires c =
-    let e = ap (λ (f : Figures). f.place) c.figures.ensures in
+    let e = ap (λ (f : Figures). f.place) c.figures_for.ensures in
     let l = place_le base (records c.args.self.now) c.in-Some.roles in
     (omega (arith, e, l), search rules)
 
 pub returns-in-Some : goal.returns-in-Some
 returns-in-Some c =
-    let e = ap (λ (f : Figures). text_of (told_of f)) c.figures.ensures ∙ sym (tells base c.args.self.now c.in-Some.roles (sym c.roles.ensures ∙ c.in-Some.is)) in
+    let e = ap (λ (f : Figures). text_of (told_of f)) c.figures_for.ensures ∙ sym (tells base c.args.self.now c.in-Some.roles (sym c.roles.ensures ∙ c.in-Some.is)) in
     (c.show.ensures.0 ∙ e, c.show.ensures.1 ∙ ap length e)
 
 pub returns-in-None : goal.returns-in-None

@@ -6,7 +6,7 @@ use Rattle.logs.proofs.Recording.{stays_faulty, takes_count, takes_record}
 use Rattle.logs.proofs.Log.take.Goals as goal
 
 pub returns-in-Faulty : goal.returns-in-Faulty
-returns-in-Faulty c = stays_faulty c.args.self.now c.args.line.now c.in-Faulty.is
+returns-in-Faulty c = stays_faulty c.args.self.now c.args.line.now _ c.in-Faulty.is
 
 pub returns-in-Fresh : goal.returns-in-Fresh
 returns-in-Fresh c = c.begin.ensures ∙ ap counted c.read.ensures ∙ takes_count c.args.self.now c.args.line.now c.in-Fresh.is
