@@ -12,4 +12,5 @@ pub mod Alike
 pub mod Promised
 pub mod Refused
 pub mod Offered
+pub mod Own
 pub mod ShutOut

@@ -9,5 +9,6 @@ pub mod Fits
 pub mod Promised
 pub mod Refused
 pub mod Offered
+pub mod Own
 pub mod ShutOut
 pub mod Stories
