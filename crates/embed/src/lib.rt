@@ -58,7 +58,7 @@ pub extern "C" fn gaugetwinkle_fresh(
     ensures { Handed (fresh_lent base tables.now roles heads.old counts.old labels.old payloads.old)
         result heads.new counts.new labels.new payloads.new }
 {
-    if lent::read_in(heads, counts, labels, payloads).is_none() {
+    if lent::read_in(heads, counts, labels, payloads).is_err() {
         return wrong_number(tables, roles);
     }
     let answer = Session::fresh(tables, roles);
@@ -84,7 +84,7 @@ pub extern "C" fn gaugetwinkle_send(
     ensures { Answered (send_lent base tables.now roles sender receiver label payload heads.old counts.old labels.old payloads.old)
         result offered.new heads.new counts.new labels.new payloads.new }
 {
-    let Some(state) = lent::read_in(heads, counts, labels, payloads) else {
+    let Ok(state) = lent::read_in(heads, counts, labels, payloads) else {
         *offered = Session::NOLABEL;
         return wrong_number(tables, roles);
     };
@@ -112,7 +112,7 @@ pub extern "C" fn gaugetwinkle_receive(
     ensures { Delivered (receive_lent base tables.now roles sender receiver heads.old counts.old labels.old payloads.old)
         result label.new payload.new offered.new heads.new counts.new labels.new payloads.new }
 {
-    let Some(state) = lent::read_in(heads, counts, labels, payloads) else {
+    let Ok(state) = lent::read_in(heads, counts, labels, payloads) else {
         *label = 0;
         *payload = 0;
         *offered = Session::NOLABEL;
@@ -143,7 +143,7 @@ pub extern "C" fn gaugetwinkle_awaited(
     ensures { Told (awaited_lent base tables.now roles heads.now counts.now labels.now payloads.now)
         result set.new count.new lowest.new }
 {
-    let Some(state) = lent::read_in(heads, counts, labels, payloads) else {
+    let Ok(state) = lent::read_in(heads, counts, labels, payloads) else {
         *set = 0;
         *count = 0;
         *lowest = Awaited::NOBODY.lowest();
