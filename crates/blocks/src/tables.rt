@@ -1,5 +1,5 @@
 // Rule 12: tables that are well formed for a step.
-ghost use Rattle.std.specs.Prelude.{◌≡◌, true, false, ◌<◌, ◌≤◌, MatchOption};
+ghost use Rattle.std.specs.Prelude.{◌≡◌, true, false, ◌-◌, ◌<◌, ◌≤◌, MatchOption};
 ghost use Rattle.words.specs.Below.{every};
 ghost use Rattle.table.specs.Limits.{base};
 ghost use Rattle.blocks.specs.Block.{block_rows};
@@ -161,11 +161,12 @@ impl<'a> Blocks<'a> {
         })
     }
 
-    // The block of a role.
+    // The block of a role; for a role that is not there, the last role's.
     pub fn block(&self, role: usize) -> Block<'a>
-        requires { role < self.now.roles }
-        ensures { (result.tables.now ≡ self.now.tables.now) × (result.roles ≡ self.now.roles) × (result.role ≡ role) }
+        ensures { (result.tables.now ≡ self.now.tables.now) × (result.roles ≡ self.now.roles) × (role < self.now.roles → result.role ≡ role)
+            × (self.now.roles ≤ role → result.role ≡ self.now.roles - 1) }
     {
+        let role = role.min(self.roles - 1);
         Block::new(self.tables, self.roles, self.rows, role)
     }
 }

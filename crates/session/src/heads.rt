@@ -11,8 +11,10 @@ pub fn first_heads(blocks: &Blocks<'_>) -> [u16; Session::ROLES]
     ensures { result ≡ first_heads blocks.now.tables.now blocks.now.roles base.roles }
 {
     let mut heads = [0u16; Session::ROLES];
-    for role in 0..blocks.roles {
-        heads[role] = blocks.block(role).head(0);
+    for role in 0..Session::ROLES {
+        if role < blocks.roles {
+            heads[role] = blocks.block(role).head(0);
+        }
     }
     heads
 }

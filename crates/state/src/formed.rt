@@ -77,7 +77,7 @@ impl State<'_> {
 
     // The one test of rule 13.
     #[tactic(auto, unfolding(crate::specs::State::state_good))]
-    pub fn is_good(&self, blocks: &Blocks<'_>) -> bool
+    pub(crate) fn is_good(&self, blocks: &Blocks<'_>) -> bool
         ensures { result ≡ state_good base blocks.now.tables.now blocks.now.roles (seen self.now) }
     {
         self.heads_good(blocks) && self.queues_good(blocks.roles)

@@ -17,7 +17,7 @@ impl State<'_> {
     // How many messages a queue holds.
     // kept: sender and receiver are two numbers here and below: one is a block's role, the other a call's or a row's peer, and rule 13 asks of
     // each two roles, also where they are no pair. A struct of a tested pair would be none where that cannot be.
-    pub fn count(&self, sender: usize, receiver: usize) -> u8
+    pub(crate) fn count(&self, sender: usize, receiver: usize) -> u8
         requires { (sender < base.roles) × (receiver < base.roles) }
         ensures { result ≡ held base (seen self.now) sender receiver }
     {
@@ -53,7 +53,7 @@ impl State<'_> {
 
     // Rules 15 to 17 for a send of that label, by the role of that block: the kind of its head decides.
     #[tactic(auto, using(crate::proofs::Turning::no_send, crate::proofs::Turning::send_else, crate::proofs::Turning::send_there))]
-    pub fn send_turn(
+    pub(crate) fn send_turn(
         &self,
         block: &Block<'_>,
         receiver: usize,
@@ -91,7 +91,7 @@ impl State<'_> {
 
     // Rules 15, 18 and 19 for a receive by the role of that block.
     #[tactic(auto, using(crate::proofs::Turning::no_receive, crate::proofs::Turning::receive_else, crate::proofs::Turning::receive_there))]
-    pub fn receive_turn(&self, block: &Block<'_>, sender: usize) -> Result<u16, Refusal>
+    pub(crate) fn receive_turn(&self, block: &Block<'_>, sender: usize) -> Result<u16, Refusal>
         requires { sender < base.roles }
         ensures { result ≡ receive_from base block.now.tables.now block.now.roles block.now.role sender (seen self.now) }
     {
@@ -108,7 +108,7 @@ impl State<'_> {
 
     // The role of that block has a call that would be accepted.
     #[tactic(auto, unfolding(crate::specs::Awaited::can_act), using(crate::proofs::Turning::no_action, crate::proofs::Turning::found_nothing, crate::proofs::Turning::found_at))]
-    pub fn can_act(&self, block: &Block<'_>) -> bool
+    pub(crate) fn can_act(&self, block: &Block<'_>) -> bool
         requires { LowPeer base (part_row block.now.tables.now block.now.roles block.now.role (head_of (seen self.now) block.now.role)) }
         ensures { result ≡ is_awaited base block.now.tables.now block.now.roles (seen self.now) block.now.role }
     {

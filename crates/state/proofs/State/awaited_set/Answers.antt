@@ -20,14 +20,14 @@ pub can_act-requires : goal.can_act-requires
 can_act-requires c =
     let blocks = c.args.blocks.now in
     let e = c.block.ensures in
-    rw (e.0, e.1, e.2) (low_peer blocks.tables.now blocks.roles c.loop-role.role (seen c.args.self.now) blocks.good c.requires c.loop-role-test.true)
+    rw (e.0, e.1, e.2 c.loop-role-test.true) (low_peer blocks.tables.now blocks.roles c.loop-role.role (seen c.args.self.now) blocks.good c.requires c.loop-role-test.true)
 
 pub loop-role-preserved : goal.loop-role-preserved
 loop-role-preserved c =
     let blocks = c.args.blocks.now in
     let p = is_awaited base blocks.tables.now blocks.roles (seen c.args.self.now) in
     let r : ℕ = c.loop-role.role in
-    let e : c.can_act.result ≡ p r = c.can_act.ensures ∙ rw (c.block.ensures.0, c.block.ensures.1, c.block.ensures.2) in
+    let e : c.can_act.result ≡ p r = c.can_act.ensures ∙ rw (c.block.ensures.0, c.block.ensures.1, c.block.ensures.2 c.loop-role-test.true) in
     rw add-one
     (elim c.if-can_act.branch [
       | then-can_act w ↦ w.set-is ∙ ap (λ (t : ℕ). bit_or t (1 * 2 ^ r % 2 ^ 8)) c.loop-role.invariant ∙ set_or 8 p r (omega (arith, blocks.few.0, c.loop-role-test.true)) (sym e ∙ w.if-can_act.true)
