@@ -36,7 +36,7 @@ module _ (ts : List ℕ) (roles r i : ℕ) where
   stands_alone (Back j x y) e h g = absurd (g j x y refl)
   stands_alone (Send q f x) e h g = refl
   stands_alone (Receive q f x) e h g = refl
-  stands_alone Other e h g = absurd (true≢false (sym e))
+  stands_alone (Other k a b c) e h g = absurd (true≢false (sym e))
 
   -- w is row i
   module _ (w : Row) (read : said w ≡ part_row ts roles r i) where

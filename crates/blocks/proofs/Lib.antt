@@ -4,3 +4,4 @@ pub mod Good
 pub mod Lowest
 pub mod Sound
 pub mod Said
+pub mod Held

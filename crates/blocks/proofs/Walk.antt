@@ -24,7 +24,7 @@ onward_stays go i (Loop b x y) h g = absurd (h b x y refl)
 onward_stays go i (Back j x y) h g = absurd (g j x y refl)
 onward_stays go i (Send q f x) h g = refl
 onward_stays go i (Receive q f x) h g = refl
-onward_stays go i Other h g = refl
+onward_stays go i (Other k a b c) h g = refl
 
 -- a row that is no Arm ends a chain
 pub chain_ends : (more : ℕ → List ArmAt) (w : Row) → ((l c n : ℕ) → w ≡ Arm l c n → ⊥) → arm_then more (said w) ≡ []
@@ -35,7 +35,7 @@ chain_ends more (Loop b x y) h = refl
 chain_ends more (Back j x y) h = refl
 chain_ends more (Send q f x) h = refl
 chain_ends more (Receive q f x) h = refl
-chain_ends more Other h = refl
+chain_ends more (Other k a b c) h = refl
 
 -- w is row i of role r's block, and n is one more than m
 pub follow_step : (ts : List ℕ) (roles r : ℕ) {n m : ℕ} (i : ℕ) (w : Row) → n ≡ suc m → said w ≡ part_row ts roles r i

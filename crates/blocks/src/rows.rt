@@ -1,9 +1,10 @@
 // The rows of one role's block.
-ghost use Rattle.std.specs.Prelude.{◌≡◌, ◌*◌, ◌<◌, ◌≤◌, get_or};
+ghost use Rattle.std.specs.Prelude.{◌≡◌, ◌+◌, ◌*◌, ◌<◌, ◌≤◌, get_or};
+ghost use Rattle.words.specs.Rows.{row_words};
 ghost use Rattle.table.specs.Limits.{base};
 ghost use Rattle.blocks.specs.Block.{part_row_of, part_row, block_rows, is_head};
 ghost use Rattle.blocks.specs.Head.{head, arms_of, find, lowest_label};
-ghost use Rattle.blocks.specs.mirror.Rows.{said, row_at, follow_at, chain_at, found_of};
+ghost use Rattle.blocks.specs.mirror.Rows.{said, four_of, row_at, follow_at, chain_at, found_of};
 
 use table::Table;
 
@@ -22,12 +23,12 @@ pub enum Row {
     // Peer, first arm, an unused word.
     Send(u16, u16, u16),
     Receive(u16, u16, u16),
-    // A kind that is none of these.
-    Other,
+    // A kind that is none of these: the kind, and the three words behind it.
+    Other(u16, u16, u16, u16),
 }
 
 impl From<[u16; 4]> for Row {
-    ghost from_gives = { λ four row. said row ≡ part_row_of (get_or four 0 0) (get_or four 1 0) (get_or four 2 0) (get_or four 3 0) };
+    ghost from_gives = { λ four row. (said row ≡ part_row_of (get_or four 0 0) (get_or four 1 0) (get_or four 2 0) (get_or four 3 0)) × (four_of row ≡ four) };
 
     fn from([kind, first, second, third]: [u16; 4]) -> Self {
         match kind {
@@ -37,7 +38,7 @@ impl From<[u16; 4]> for Row {
             4 => Row::Back(first, second, third),
             5 => Row::Send(first, second, third),
             6 => Row::Receive(first, second, third),
-            _ => Row::Other,
+            _ => Row::Other(kind, first, second, third),
         }
     }
 }
@@ -58,7 +59,7 @@ impl Row {
 // A row of the block that begins at row `start`; past the end of the tables its words are 0.
 // kept: docs/landings/ name this function and `head`, so they take any numbers and no block, as `find_arm` does.
 pub fn row_at(tables: &[u16], start: usize, row: usize) -> Row
-    ensures { said result ≡ row_at tables.now start row }
+    ensures { (said result ≡ row_at tables.now start row) × (four_of result ≡ row_words tables.now (start + row)) }
 {
     Row::from(words::row(tables, start.saturating_add(row)))
 }

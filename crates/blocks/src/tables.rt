@@ -76,7 +76,7 @@ impl<'a> Block<'a> {
             Row::Send(peer, first, third) | Row::Receive(peer, first, third) => {
                 self.is_peer(peer) && self.to_arm(row, first) && (third == 0)
             }
-            Row::Other => false,
+            Row::Other(..) => false,
         }
     }
 }

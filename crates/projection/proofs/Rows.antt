@@ -105,7 +105,7 @@ not_exchange t i x e never k = go x never (ap number e ∙ rw k refl)
     go (read.Arm a b c) never h = omega arith
     go (read.Loop a b c) never h = omega arith
     go (read.Back a b c) never h = omega arith
-    go read.Other never h = omega arith
+    go (read.Other k a b c) never h = omega arith
 
 -- ---- the kind of a row, as the code read it
 
@@ -158,7 +158,7 @@ at_other {v} {i} x e n1 n3 n4 {w} ew = record { says = go (others x n1 n3 n4) }
     others (read.Arm a b c) n1 n3 n4 = (λ h. omega arith, λ h. omega arith, λ h. omega arith)
     others (read.Loop a b c) n1 n3 n4 = absurd (n3 a b c refl)
     others (read.Back a b c) n1 n3 n4 = absurd (n4 a b c refl)
-    others read.Other n1 n3 n4 = (λ h. omega arith, λ h. omega arith, λ h. omega arith)
+    others (read.Other k a b c) n1 n3 n4 = (λ h. omega arith, λ h. omega arith, λ h. omega arith)
 
     go : (number (said x) ≢ 1) × (number (said x) ≢ 3) × (number (said x) ≢ 4) → (G : Global ℕ) → Known v → Grows v.table.now i G → Coded G → PlannedBy (Leaf w) v G
     go h G o (grows_end l z) m = (p_end, refl, rw ew refl)

@@ -96,7 +96,7 @@ impl Reach {
                 roles: 0,
                 out: depth.saturating_add(1),
             },
-            Row::End(_, _, _) | Row::Other => Reach::NOTHING,
+            Row::End(_, _, _) | Row::Other(..) => Reach::NOTHING,
         }
     }
 

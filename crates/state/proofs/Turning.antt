@@ -37,7 +37,7 @@ module _ (lim : Limits) (ts : List ℕ) (roles r : ℕ) {row : PartRow} where
   no_send q l count (Back a b c) e h = rw (← e)
   no_send q l count (Send a b c) e h = absurd (h a b c refl)
   no_send q l count (Receive a b c) e h = rw (← e)
-  no_send q l count Other e h = rw (← e)
+  no_send q l count (Other k a b c) e h = rw (← e)
 
   -- a send to another, and one to q
   pub send_else : (q l count a b c : ℕ) → part.Send a b c ≡ row → (a ≡ q → ⊥) → Err Turn ≡ send_turn lim ts roles r q l count row
@@ -56,7 +56,7 @@ module _ (lim : Limits) (ts : List ℕ) (roles r : ℕ) {row : PartRow} where
   no_receive p l count (Back a b c) e h = rw (← e)
   no_receive p l count (Send a b c) e h = rw (← e)
   no_receive p l count (Receive a b c) e h = absurd (h a b c refl)
-  no_receive p l count Other e h = rw (← e)
+  no_receive p l count (Other k a b c) e h = rw (← e)
 
   pub receive_else : (p l count a b c : ℕ) → part.Receive a b c ≡ row → (a ≡ p → ⊥) → Err Turn ≡ receive_turn lim ts roles p r count l row
   unfolding receive_turn
@@ -74,4 +74,4 @@ module _ (lim : Limits) (ts : List ℕ) (roles r : ℕ) {row : PartRow} where
   no_action s (Back a b c) e g h = rw (← e)
   no_action s (Send a b c) e g h = absurd (g a b c refl)
   no_action s (Receive a b c) e g h = absurd (h a b c refl)
-  no_action s Other e g h = rw (← e)
+  no_action s (Other k a b c) e g h = rw (← e)

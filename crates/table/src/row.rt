@@ -1,14 +1,16 @@
 // A row of a table, and the rules of its own words.
 ghost use Rattle.std.specs.Prelude.{◌≡◌, get_or};
+ghost use Rattle.words.specs.Rows.{row_words};
 ghost use Rattle.table.specs.Limits.{base};
 ghost use Rattle.table.specs.Rows.{row as row_at, row_of};
 ghost use Rattle.table.specs.Rules.{kind_broken, field_broken, to_arm, to_other, link_broken};
 ghost use Rattle.table.specs.mirror.Names.{near_link, far_link};
-ghost use Rattle.table.specs.mirror.Read.{said};
+ghost use Rattle.table.specs.mirror.Read.{said, four_of};
 
 use crate::Table;
 
-// A row: its first word decides what the other three hold. The words that a kind does not use are kept, since a rule asks for 0 there.
+// A row: its first word decides what the other three hold. The words that a kind does not use are kept, since a rule asks for 0 there, and
+// so are those of a row of no kind: a row that was read still has its four words.
 #[derive(Clone, Copy, Debug, PartialEq, Eq)]
 pub enum Row {
     End(u16, u16, u16),
@@ -25,12 +27,12 @@ pub enum Row {
     },
     Loop(u16, u16, u16),
     Back(u16, u16, u16),
-    // No row has such a kind.
-    Other,
+    // No row has such a kind: the kind, and the three words behind it.
+    Other(u16, u16, u16, u16),
 }
 
 impl From<[u16; 4]> for Row {
-    ghost from_gives = { λ four row. said row ≡ row_of (get_or four 0 0) (get_or four 1 0) (get_or four 2 0) (get_or four 3 0) };
+    ghost from_gives = { λ four row. (said row ≡ row_of (get_or four 0 0) (get_or four 1 0) (get_or four 2 0) (get_or four 3 0)) × (four_of row ≡ four) };
 
     fn from(four: [u16; 4]) -> Row {
         let [kind, first, second, third] = four;
@@ -48,14 +50,14 @@ impl From<[u16; 4]> for Row {
             },
             3 => Row::Loop(first, second, third),
             4 => Row::Back(first, second, third),
-            _ => Row::Other,
+            _ => Row::Other(kind, first, second, third),
         }
     }
 }
 
 // A row as it is read; past the end its words are 0.
 pub fn read(words: &[u16], row: usize) -> Row
-    ensures { said result ≡ row_at words.now row }
+    ensures { (said result ≡ row_at words.now row) × (four_of result ≡ row_words words.now row) }
 {
     Row::from(words::row(words, row))
 }
@@ -65,7 +67,7 @@ impl Row {
     pub fn kind_broken(self) -> bool
         ensures { result ≡ kind_broken (said self) }
     {
-        self == Row::Other
+        matches!(self, Row::Other(..))
     }
 
     // An unused word not 0, a role not in range, sender equal to receiver, label over the limit.
@@ -85,7 +87,7 @@ impl Row {
             }
             Row::Arm { label, .. } => !(usize::from(label) < Table::LABELS),
             Row::Loop(_, a, b) | Row::Back(_, a, b) => !(a == 0 && b == 0),
-            Row::Other => false,
+            Row::Other(..) => false,
         }
     }
 

@@ -16,7 +16,17 @@ said (Loop b x y) = part.Loop b x y
 said (Back j x y) = part.Back j x y
 said (Send q f x) = part.Send q f x
 said (Receive q f x) = part.Receive q f x
-said Other = part.Other
+said (Other kind a b c) = part.Other
+
+-- its four words
+abbrev pub four_of : Row → List ℕ
+four_of (End a b c) = 0 ∷ a ∷ b ∷ c ∷ []
+four_of (Arm l c n) = 2 ∷ l ∷ c ∷ n ∷ []
+four_of (Loop b x y) = 3 ∷ b ∷ x ∷ y ∷ []
+four_of (Back j x y) = 4 ∷ j ∷ x ∷ y ∷ []
+four_of (Send q f x) = 5 ∷ q ∷ f ∷ x ∷ []
+four_of (Receive q f x) = 6 ∷ q ∷ f ∷ x ∷ []
+four_of (Other kind a b c) = kind ∷ a ∷ b ∷ c ∷ []
 
 -- row i of the block that begins at row `start`
 abbrev pub row_at : List ℕ → ℕ → ℕ → PartRow

@@ -9,5 +9,5 @@ use Rattle.projection.proofs.Projection.arm_at.Goals as goal
 
 pub returns : goal.returns
 returns c =
-    let (k, a, b, f) = words_are _ _ _ _ (Arm _ _ _) (sym (ap said c.in-Arm.is) ∙ c.read.ensures) (omega arith) in
+    let (k, a, b, f) = words_are _ _ _ _ (Arm _ _ _) (sym (ap said c.in-Arm.is) ∙ c.read.ensures.0) (omega arith) in
     an_arm _ refl k (λ l. rw a (c.word.ensures (rw a at l))) (c.from.ensures ∙ sym b) (c.from-2.ensures ∙ sym f)

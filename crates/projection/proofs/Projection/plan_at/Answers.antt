@@ -8,14 +8,14 @@ use Rattle.projection.proofs.Projection.plan_at.Goals as goal
 
 pub returns-in-Exchange : goal.returns-in-Exchange
 returns-in-Exchange c =
-    let (k, a, b, f) = words_are _ _ _ _ (Exchange _ _ _) (sym (ap said c.in-Exchange.is) ∙ c.read.ensures) (omega arith) in
+    let (k, a, b, f) = words_are _ _ _ _ (Exchange _ _ _) (sym (ap said c.in-Exchange.is) ∙ c.read.ensures.0) (omega arith) in
     at_exchange (sym k) refl (sym a) (sym b) (c.from.ensures ∙ sym f) c.after.ensures c.at_exchange.ensures
 
 pub returns-in-Back : goal.returns-in-Back
 returns-in-Back c =
-    let (k, a, b, f) = words_are _ _ _ _ (Back _ _ _) (sym (ap said c.in-Back.is) ∙ c.read.ensures) (omega arith) in
+    let (k, a, b, f) = words_are _ _ _ _ (Back _ _ _) (sym (ap said c.in-Back.is) ∙ c.read.ensures.0) (omega arith) in
     at_back (sym k) refl (sym a) c.word.ensures
 
 pub returns-in_default : goal.returns-in_default
 returns-in_default c =
-    at_other c.read.result c.read.ensures c.in_default.not-Exchange c.in_default.not-Loop c.in_default.not-Back (c.word-in_default.ensures (omega arith))
+    at_other c.read.result c.read.ensures.0 c.in_default.not-Exchange c.in_default.not-Loop c.in_default.not-Back (c.word-in_default.ensures (omega arith))

@@ -10,4 +10,4 @@ loop-row-init c = rw c.min-rows.ensures (passing_start _)
 pub loop-row-preserved : goal.loop-row-preserved
 loop-row-preserved c =
     passing_turn c.of-reach.result c.loop-row.invariant c.loop-row-test.true
-    (c.of-reach.ensures ∙ ap (reach_of (placed c.loop-row.found)) c.read.ensures) c.stay.ensures refl refl
+    (c.of-reach.ensures ∙ ap (reach_of (placed c.loop-row.found)) c.read.ensures.0) c.stay.ensures refl refl

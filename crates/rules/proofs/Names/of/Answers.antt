@@ -18,8 +18,8 @@ loop-row-preserved c =
     let two = c.add_name-in-loop-row.ensures in
     let long = sym (length-map c.loop-row.rows (λ n. n.times)) ∙ c.loop-row.invariant.0.count_length in
     let inside = inside_step t _ c.loop-row.rows c.near_link.result (c.loop-row.row - 1) (omega arith) long (one.by 0) c.loop-row.invariant.1 in (
-      filling_turn t _ _ _ _ _ _ c.loop-row.row _ _ (omega arith) (omega arith) (c.near_link.ensures ∙ ap near_link c.read-this.ensures)
-          (c.far_link.ensures ∙ ap far_link c.read-this.ensures) (one.by (rows_of t), one.times) (two.by (rows_of t), two.times) c.loop-row.invariant.0,
+      filling_turn t _ _ _ _ _ _ c.loop-row.row _ _ (omega arith) (omega arith) (c.near_link.ensures ∙ ap near_link c.read-this.ensures.0)
+          (c.far_link.ensures ∙ ap far_link c.read-this.ensures.0) (one.by (rows_of t), one.times) (two.by (rows_of t), two.times) c.loop-row.invariant.0,
       inside_step t _ c.add_name.new.names c.far_link.result (c.loop-row.row - 1) (omega arith) c.add_name.array_long (two.by 0) inside,
     )
 

@@ -8,7 +8,7 @@ pub returns-in-Back : goal.returns-in-Back
 returns-in-Back c =
     let near = (c.args.self.now.filled c.requires.1 c.args.row c.requires.0).1 in
     rw (
-      ← c.in-Back.ensures {u = tt},
+      ← (c.in-Back.ensures {u = tt}).0,
       only_loops_lem,
       ← get_or-map (λ n. n.near) c.args.self.now.rows c.args.row (record { around = 0; near = 0 }),
       near,
