@@ -19,7 +19,7 @@
 --   Rising.tokens_bound         the tokens of a text do not depend on the bound of their number
 -- What the answers of the code say:
 --   Sorts.sort_meant-injective  no two sorts of the code stand for one sort
---   Noting.note_decides         what `faults::note` keeps is the fault that decides; of it blamed_of-injective, noted_none
+--   Noting.note_decides         what `faults::note` keeps is the fault that decides; of it blamed_of-injective, blamed_of-surjective, noted_none
 --   Same.number_of_index        what `names::find` answers, as the number of a name among names
 -- Assumes nothing.
 pub mod Scanning

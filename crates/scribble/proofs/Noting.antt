@@ -7,10 +7,11 @@ use native.Mathlib.Omega.{arith}
 use lib.Dec.{ltb, eqb}
 use borrow.Author.Tests.{ltb-true, eqb-true, eqb-false}
 use Rattle.scribble.specs.Refusals.{Fault, blame, fault_when, Finding, faulty, deciding, soonest}
-use Rattle.std.proofs.Common.{Option, None, Some}
+use Rattle.std.proofs.Common.{Result, Ok, Err}
 use native.Mathlib.Bridge.{le_prop}
 use mathlib.Core.HLevel.{is_prop→PathP}
 use Rattle.std.specs.declared.num.NonZeroU8.{NonZeroU8}
+use Rattle.std.specs.Int.NonZero.{non_zero_u8_get}
 use Rattle.scribble.specs.declared.faults.Fault.{Fault as Code}
 use Rattle.scribble.specs.mirror.Least.{Blamed, finding_of, noted}
 use Rattle.scribble.specs.mirror.Blamed.{blamed_of}
@@ -91,11 +92,24 @@ same_number : (m n : NonZeroU8) → m.value ≡ n.value → m ≡ n
 same_number m n p = λ i. record { value = p i; ok = is_prop→PathP (λ j. 0 < p j) (λ j. le_prop) m.ok n.ok i }
 
 -- THEOREM: no two answers of `faults::note` come to the same place and number, so what it promises says which it answers
-pub blamed_of-injective : (a b : Option Code) → blamed_of a ≡ blamed_of b → a ≡ b
-blamed_of-injective None None e = refl
-blamed_of-injective None (Some g) e = let n = ap (λ (b : Blamed). b.number) e in absurd (omega (arith, n, g.number.ok))
-blamed_of-injective (Some f) None e = let n = ap (λ (b : Blamed). b.number) e in absurd (omega (arith, n, f.number.ok))
-blamed_of-injective (Some f) (Some g) e =
+pub blamed_of-injective : (a b : Result Code ℕ) → blamed_of a ≡ blamed_of b → a ≡ b
+blamed_of-injective (Err p) (Err q) e = ap (λ (b : Blamed). Err b.place) e
+blamed_of-injective (Err p) (Ok g) e = let n = ap (λ (b : Blamed). b.number) e in absurd (omega (arith, n, g.number.ok))
+blamed_of-injective (Ok f) (Err q) e = let n = ap (λ (b : Blamed). b.number) e in absurd (omega (arith, n, f.number.ok))
+blamed_of-injective (Ok f) (Ok g) e =
     let n = same_number f.number g.number (ap (λ (b : Blamed). b.number) e) in
     let p = ap (λ (b : Blamed). b.place) e in
-    λ i. Some (record { place = p i; number = n i })
+    λ i. Ok (record { place = p i; number = n i })
+
+-- each number in it is below its bound
+abbrev pub Within : ℕ → ℕ → Result Code ℕ → Type 0
+Within places numbers (Err place) = place < places
+Within places numbers (Ok fault) = (fault.place < places) × (non_zero_u8_get fault.number < numbers)
+
+-- THEOREM: each place and number, any place beside number 0 too, are those of a value that `faults::note` takes, with no larger number in it: so what it promises holds of each place that a usize holds beside each number that a u8 holds
+pub blamed_of-surjective : (places numbers : ℕ) (b : Blamed) → b.place < places → b.number < numbers → (kept : Result Code ℕ) × Within places numbers kept × (blamed_of kept ≡ b)
+blamed_of-surjective places numbers b = by b.place b.number
+  where
+    by : (p n : ℕ) → p < places → n < numbers → (kept : Result Code ℕ) × Within places numbers kept × (blamed_of kept ≡ record { place = p; number = n })
+    by p zero l m = (Err p, l, refl)
+    by p (suc n) l m = (Ok (record { place = p; number = record { value = suc n; ok = omega arith } }), (l, m), refl)

@@ -14,8 +14,14 @@ pub struct Fault {
 
 // One fault more, where the test holds and the number is not 0.
 // kept: a test and a plain number beside the place, since `note` promises its answer at number 0 too, which no `Fault` has.
+// kept: `Err` of a place where no fault is met, and no `Option`, since `note` takes and hands back any place beside no fault.
 #[tactic(auto, unfolding(crate::specs::mirror::Least::noted))]
-pub fn note(least: Option<Fault>, test: bool, place: usize, number: u8) -> Option<Fault>
+pub fn note(
+    least: Result<Fault, usize>,
+    test: bool,
+    place: usize,
+    number: u8,
+) -> Result<Fault, usize>
     ensures { blamed_of result ≡ noted (blamed_of least) test place number }
 {
     let Some(number) = NonZeroU8::new(number).filter(|_| test) else {
@@ -23,7 +29,7 @@ pub fn note(least: Option<Fault>, test: bool, place: usize, number: u8) -> Optio
     };
     let met = Fault { place, number };
     match least {
-        Some(least) => Some(least.min(met)),
-        None => Some(met),
+        Ok(least) => Ok(least.min(met)),
+        Err(_) => Ok(met),
     }
 }
