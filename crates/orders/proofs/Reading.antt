@@ -61,7 +61,7 @@ module _ (k : Kept) (line old : List ℕ) (long : length old ≡ 65536) where
     unfolding count_of
     counted = some_of (is_line line) (length (numbers_of line)) n (rw long at e)
 
-    numbers_read : (new : List ℕ) → new ≡ cond (leb (length line) (length old)) (overlaid 0 (numbers_of line) old) old → take n new ≡ numbers_of line
+    pub numbers_read : (new : List ℕ) → new ≡ cond (leb (length line) (length old)) (overlaid 0 (numbers_of line) old) old → take n new ≡ numbers_of line
     numbers_read new g =
         let short : leb (length line) 65536 ≡ true = (and_both (leb (length line) 65536) (well_formed line) counted.0).0 in
         let all : length (numbers_of line) ≤ length old = omega (arith, leb-true (length line) 65536 short, few_numbers line) in

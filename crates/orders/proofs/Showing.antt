@@ -58,7 +58,7 @@ unfolding worded
 worded_some [] l = absurd (omega arith)
 worded_some (n ∷ ns) l = refl
 
-text_put : (ns old out : List ℕ) (r : ℕ) → 0 < length ns → length ns * 11 ≤ length old
+pub text_put : (ns old out : List ℕ) (r : ℕ) → 0 < length ns → length ns * 11 ≤ length old
     → r ≡ min (length (text_of ns)) (length old) → out ≡ overlaid 0 (text_of ns) old → (take r out ≡ worded ns) × (r ≡ length (worded ns))
 text_put ns old out r some room e f =
     let all : length (text_of ns) ≤ length old = omega (arith, text_long ns) in

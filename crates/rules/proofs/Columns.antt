@@ -55,7 +55,7 @@ column_step t f l n x h most e c = record {
 abbrev pub Columns : List ℕ → List ℕ → List ℕ → ℕ → Type 0
 Columns t around near n = Column t (λ i. loops t (above t i)) around n × Column t (λ i. near_loops t (above t i)) near n
 
-columns_start : (t : List ℕ) → Columns t (replicate places 0) (replicate places 0) 1
+pub columns_start : (t : List ℕ) → Columns t (replicate places 0) (replicate places 0) 1
 unfolding loops near_loops
 columns_start t =
     let z = over_zero (rows_of t) t in
@@ -92,7 +92,7 @@ module _ (t around near : List ℕ) (n p : ℕ) (il : Bool) (inside : n < rows_o
       more false x = refl
 
   -- what is stored for row n, as the loop has it
-  columns_step : (around' near' : List ℕ)
+  pub columns_step : (around' near' : List ℕ)
       → (around' ≡ set around n (get_or around p 0 + one il)) × (near' ≡ set near n (cond il (get_or near p 0 + 1) 0))
       → Columns t around' near' (n + 1)
   columns_step around' near' e = rw (e.0, e.1) (

@@ -89,7 +89,7 @@ at_end : (b : Bool) (k n : ℕ) → ltb k n ≡ b → k ≤ n → cond b k n ≡
 at_end true k n e h = refl
 at_end false k n e h = let l = ltb-false k n e in omega arith
 
-filling_start : (t : List ℕ) → rows_of t ≤ base.rows → (n : ℕ) → n ≡ rows_of t → Filling t (replicate places n) (replicate places 0) (rows_of t)
+pub filling_start : (t : List ℕ) → rows_of t ≤ base.rows → (n : ℕ) → n ≡ rows_of t → Filling t (replicate places n) (replicate places 0) (rows_of t)
 filling_start t h n e = record {
   by_length = length-replicate places n;
   count_length = length-replicate {A = ℕ} places 0;
