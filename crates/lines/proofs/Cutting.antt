@@ -14,7 +14,7 @@ use Rattle.lines.specs.Input.{longer, ended, begun, lines_of, Answered, AllAnswe
 use Rattle.lines.specs.mirror.Runs.{lengthened, run}
 use Rattle.lines.proofs.Running.{ended-run, begun-run, ended-none, begun-none}
 
--- the bytes that are left end the same lines behind a line and a closure as all of them behind those at the start
+-- the bytes that are left end the same lines behind a line and what answers it as all of them behind those at the start
 pub record Cut {F : Type 0} (g : F → List ℕ → F → Type 0) (room : ℕ) (bs first line : List ℕ) (f : F) (left front now : List ℕ) (h : F) : Type 0 where
   pub same : front ≡ first
   pub rest : begun room front now left ≡ begun room first line bs

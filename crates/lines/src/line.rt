@@ -1,11 +1,11 @@
-// A line that comes in byte by byte.
+// A line that comes in piece by piece.
 ghost use Rattle.std.specs.Prelude.{◌≡◌, ◌≤◌, ◌==◌, take, length};
 ghost use Rattle.lines.specs.Input.{longer};
 ghost use Rattle.lines.specs.mirror.Runs.{lengthened};
 
 use crate::fit;
 
-// A line that comes in byte by byte behind a front that each line has. What its room does not hold is not kept.
+// A line that comes in piece by piece behind a front that each line has. What its room does not hold is not kept.
 // kept: no plainer as `ArrayVec<u8, ROOM>`: the front's length and `within` stay beside it, and its `truncate` blanks each byte given up
 #[derive(Drop)]
 pub struct Line<const ROOM: usize> {

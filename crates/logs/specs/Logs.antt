@@ -38,7 +38,7 @@ roles_of fresh = None
 roles_of faulty = None
 roles_of (logged roles rs) = Some roles
 
--- the role count that was read, 0 for none
+-- the role count that the state holds, 0 for none
 abbrev pub role_count : State → ℕ
 role_count Fresh = 0
 role_count (Faulty roles) = roles
@@ -48,7 +48,7 @@ role_count (Begun roles) = roles
 abbrev pub FiguredFor : Limits → Log → ℕ → Figures → Type 0
 FiguredFor lim log roles f = f ≡ report_of lim (records log) roles
 
--- and for the role count that was read
+-- and for the role count that the state holds
 abbrev pub Figured : Limits → Log → Figures → Type 0
 Figured lim log f = FiguredFor lim log (role_count log.state) f
 

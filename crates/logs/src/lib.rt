@@ -119,7 +119,7 @@ impl Log {
         }
     }
 
-    // The role count that was read, 0 for none.
+    // The role count that the state holds, 0 for none.
     // kept: 0 for none, since the report for none is that for 0 roles, as before the pass
     fn role_count(&self) -> usize
         ensures { result ≡ role_count self.now.state }
@@ -130,7 +130,7 @@ impl Log {
         }
     }
 
-    // The report of the records that were read, for the role count that was read.
+    // The report of the records that are kept, for the role count that the state holds.
     pub fn figures(&self) -> Result<Figures, Refusal>
         ensures { Figured base self.now (figures_of base result) }
     {
