@@ -56,7 +56,7 @@ impl State<'_> {
         ensures { result ≡ send_judged base tables.now roles sender receiver label (seen self.now) }
     {
         let blocks = self.paired(tables, roles, sender, receiver)?;
-        self.send_turn(&blocks.block(sender), receiver, label)
+        self.send_from(&blocks.block(sender), receiver, label)
     }
 
     // Rules 12 to 15, 18 and 19: the row that the receiver moves to.
@@ -71,7 +71,7 @@ impl State<'_> {
         ensures { result ≡ receive_judged base tables.now roles sender receiver (seen self.now) }
     {
         let blocks = self.paired(tables, roles, sender, receiver)?;
-        self.receive_turn(&blocks.block(receiver), sender)
+        self.receive_from(&blocks.block(receiver), sender)
     }
 
     // The roles that have a call which would be accepted, over a good state.
@@ -81,7 +81,7 @@ impl State<'_> {
     {
         let mut set: u8 = 0;
         for role in 0..blocks.roles {
-            if self.can_act(&blocks.block(role)) {
+            if self.is_awaited(&blocks.block(role)) {
                 set |= 1u8 << role;
             }
         }

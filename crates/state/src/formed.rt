@@ -55,7 +55,7 @@ impl State<'_> {
         requires { (sender < base.roles) × (receiver < base.roles) }
         ensures { result ≡ queue_good base roles (seen self.now) sender receiver }
     {
-        let count = usize::from(self.count(sender, receiver));
+        let count = usize::from(self.held(sender, receiver));
         let at = (sender * Table::ROLES + receiver) * DEPTH;
         count <= DEPTH
             && (are_pair(roles, sender, receiver) || count == 0)

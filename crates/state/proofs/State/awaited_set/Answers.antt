@@ -10,14 +10,14 @@ use Rattle.state.specs.mirror.State.{seen}
 use Rattle.state.proofs.Sets.{set_or, set_not}
 use Rattle.state.proofs.Acting.{low_peer}
 use Rattle.state.proofs.State.awaited_set.Goals as goal
-use Rattle.state.proofs.State.awaited_set.Goals.{then-can_act, else-can_act}
+use Rattle.state.proofs.State.awaited_set.Goals.{then-is_awaited, else-is_awaited}
 
 pub loop-role-init : goal.loop-role-init
 unfolding sum
 loop-role-init c = refl
 
-pub can_act-requires : goal.can_act-requires
-can_act-requires c =
+pub is_awaited-requires : goal.is_awaited-requires
+is_awaited-requires c =
     let blocks = c.args.blocks.now in
     let e = c.block.ensures in
     rw (e.0, e.1, e.2 c.loop-role-test.true) (low_peer blocks.tables.now blocks.roles c.loop-role.role (seen c.args.self.now) blocks.good c.requires c.loop-role-test.true)
@@ -27,9 +27,9 @@ loop-role-preserved c =
     let blocks = c.args.blocks.now in
     let p = is_awaited base blocks.tables.now blocks.roles (seen c.args.self.now) in
     let r : ℕ = c.loop-role.role in
-    let e : c.can_act.result ≡ p r = c.can_act.ensures ∙ rw (c.block.ensures.0, c.block.ensures.1, c.block.ensures.2 c.loop-role-test.true) in
+    let e : c.is_awaited.result ≡ p r = c.is_awaited.ensures ∙ rw (c.block.ensures.0, c.block.ensures.1, c.block.ensures.2 c.loop-role-test.true) in
     rw add-one
-    (elim c.if-can_act.branch [
-      | then-can_act w ↦ w.set-is ∙ ap (λ (t : ℕ). bit_or t (1 * 2 ^ r % 2 ^ 8)) c.loop-role.invariant ∙ set_or 8 p r (omega (arith, blocks.few.0, c.loop-role-test.true)) (sym e ∙ w.if-can_act.true)
-      | else-can_act w ↦ w.set-is ∙ c.loop-role.invariant ∙ set_not p r (sym e ∙ w.if-can_act.false)
+    (elim c.if-is_awaited.branch [
+      | then-is_awaited w ↦ w.set-is ∙ ap (λ (t : ℕ). bit_or t (1 * 2 ^ r % 2 ^ 8)) c.loop-role.invariant ∙ set_or 8 p r (omega (arith, blocks.few.0, c.loop-role-test.true)) (sym e ∙ w.if-is_awaited.true)
+      | else-is_awaited w ↦ w.set-is ∙ c.loop-role.invariant ∙ set_not p r (sym e ∙ w.if-is_awaited.false)
     ])

@@ -15,7 +15,7 @@ pub returns-then-count-eq0 : goal.returns-then-count-eq0
 returns-then-count-eq0 c =
     let a = c.args in
     let n = c.from-count.result in
-    let held_is : n ≡ held base (seen a.self.now) a.sender a.receiver = c.from-count.ensures ∙ c.count.ensures in
+    let held_is : n ≡ held base (seen a.self.now) a.sender a.receiver = c.from-count.ensures ∙ c.held.ensures in
     let slots = every_from_all _ _ 4 _ (λ k. slot_holds base n k (get_or a.self.now.labels.now ((a.sender * 8 + a.receiver) * 4 + k) 0) (get_or a.self.now.payloads.now ((a.sender * 8 + a.receiver) * 4 + k) 0)) c.all.ensures.ran (λ x q k. search rules) (λ x q k. search rules) in
     elim c.if-count-le-DEPTH.branch [
       | then-count-le-DEPTH+then-are_pair w ↦ queue_read a.roles a.sender a.receiver (seen a.self.now) held_is w.if-count-le-DEPTH.true (rw (sym w.are_pair.ensures ∙ w.if-are_pair.true)) slots

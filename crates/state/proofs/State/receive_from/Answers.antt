@@ -1,7 +1,7 @@
--- `State::receive_turn` meets its contract. Assumes nothing.
+-- `State::receive_from` meets its contract. Assumes nothing.
 use Rattle.table.specs.Limits.{base}
 use Rattle.state.proofs.Turning.{no_receive}
-use Rattle.state.proofs.State.receive_turn.Goals as goal
+use Rattle.state.proofs.State.receive_from.Goals as goal
 
 pub returns-in_default : goal.returns-in_default
 returns-in_default c =

@@ -1,7 +1,7 @@
--- `State::send_turn` meets its contract. Assumes nothing.
+-- `State::send_from` meets its contract. Assumes nothing.
 use Rattle.table.specs.Limits.{base}
 use Rattle.state.proofs.Turning.{no_send}
-use Rattle.state.proofs.State.send_turn.Goals as goal
+use Rattle.state.proofs.State.send_from.Goals as goal
 
 pub returns-in_default : goal.returns-in_default
 returns-in_default c =
