@@ -36,9 +36,20 @@ pub trait Width: Copy + Drop {
     // The widest number of this kind.
     const MAX: u32;
 
-    // A number of this kind: the number itself where it is not too wide, else what is left of it.
+    // A number of this kind.
     fn of(n: u32) -> Self
-        ensures { number result ≡ n % (MAX + 1) };
+        requires { n ≤ MAX }
+        ensures { number result ≡ n };
+
+    // A number of any width: the number itself where it is not too wide, else what is left of it.
+    fn wrapped(n: u32) -> Self
+        ensures { number result ≡ n % (MAX + 1) }
+    {
+        match Self::MAX.checked_add(1) {
+            Some(kinds) => Self::of(n % kinds),
+            None => Self::of(n),
+        }
+    }
 
     ghost length_of_numbers: { (xs : List Self) → length (numbers xs) ≡ length xs };
 
@@ -58,8 +69,13 @@ impl Width for u16 {
 
     ghost numbers_of_set = { λ xs i x. refl };
 
-    // kept: `as`, since what is left fits; `try_from` would leave an `Err` that cannot be
+    // kept: `as`, since `requires` says that the number fits; `try_from` would leave an `Err` that cannot be
     fn of(n: u32) -> u16 {
+        n as u16
+    }
+
+    // kept: `as`, since what is left fits
+    fn wrapped(n: u32) -> u16 {
         (n % 65536) as u16
     }
 }
@@ -77,8 +93,13 @@ impl Width for u8 {
 
     ghost numbers_of_set = { λ xs i x. refl };
 
-    // kept: `as`, since what is left fits; `try_from` would leave an `Err` that cannot be
+    // kept: `as`, since `requires` says that the number fits; `try_from` would leave an `Err` that cannot be
     fn of(n: u32) -> u8 {
+        n as u8
+    }
+
+    // kept: `as`, since what is left fits
+    fn wrapped(n: u32) -> u8 {
         (n % 256) as u8
     }
 }
@@ -97,6 +118,10 @@ impl Width for u32 {
     ghost numbers_of_set = { λ xs i x. refl };
 
     fn of(n: u32) -> u32 {
+        n
+    }
+
+    fn wrapped(n: u32) -> u32 {
         n
     }
 }
@@ -119,7 +144,7 @@ pub fn narrow<T: Width>(numbers: &[u32], out: &mut [T]) -> bool
         return false;
     }
     for (i, n) in numbers.iter().enumerate() {
-        out[i] = T::of(*n);
+        out[i] = T::wrapped(*n);
     }
     true
 }
@@ -141,4 +166,19 @@ pub fn copy(numbers: &[u32], out: &mut [u32])
     ensures { Copies numbers.now out.old out.new }
 {
     put(numbers, out, 0);
+}
+
+#[cfg(test)]
+mod tests {
+    use super::*;
+
+    #[test]
+    fn numbers_of_each_width(rt: HostRuntime) {
+        assert_eq!(rt; u8::of(255), 255);
+        assert_eq!(rt; u16::of(65535), 65535);
+        assert_eq!(rt; u32::of(u32::MAX), u32::MAX);
+        assert_eq!(rt; u8::wrapped(258), 2);
+        assert_eq!(rt; u16::wrapped(65539), 3);
+        assert_eq!(rt; u32::wrapped(u32::MAX), u32::MAX);
+    }
 }

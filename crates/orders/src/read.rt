@@ -12,7 +12,7 @@ fn array<T: Width, const N: usize>(numbers: &[u32]) -> Option<[T; N]>
     ensures { MatchOption result ((eqb (length numbers.now) N && all_below (T.MAX + 1) numbers.now) ≡ false)
         (λ xs. (length numbers.now ≡ N) × (all_below (T.MAX + 1) numbers.now ≡ true) × (T.numbers xs ≡ numbers.now)) }
 {
-    let mut items = [T::of(0); N];
+    let mut items = [T::wrapped(0); N];
     if numbers.len() != N || !lines::narrow(numbers, &mut items) {
         return None;
     }

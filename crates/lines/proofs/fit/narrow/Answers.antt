@@ -29,7 +29,7 @@ loop-i-preserved g c =
     let more = stored c.args.numbers.now (g.T.Width.numbers was.out) was.i was.i c.loop-i-test.true in
     let all : all_below (g.T.Width.MAX + 1) c.args.numbers.now ≡ true = all_of _ _ _ _ c.MAX.ensures c.all_at_most.ensures c.if-not-all_at_most.false in
     let low = each_below (g.T.Width.MAX + 1) c.args.numbers.now c.loop-i.i all c.loop-i-test.true in
-    (simp length-set was.invariant.0, rw (t.numbers_of_set was.out was.i c.of.result, c.of.ensures, mod-eq_of_lt low) (more ∙ was.invariant.1))
+    (simp length-set was.invariant.0, rw (t.numbers_of_set was.out was.i c.wrapped.result, c.wrapped.ensures, mod-eq_of_lt low) (more ∙ was.invariant.1))
 
 pub returns : goal.returns
 returns g c =

@@ -8,7 +8,7 @@ use Rattle.orders.proofs.read.array.Goals.{then-numbers-via-then-numbers, then-n
 
 pub returns-then-numbers : goal.returns-then-numbers
 returns-then-numbers g c =
-    let long = g.met.T.Width.length_of_numbers (replicate g.row.N c.of-items.result) ∙ length-replicate g.row.N c.of-items.result in
+    let long = g.met.T.Width.length_of_numbers (replicate g.row.N c.wrapped-items.result) ∙ length-replicate g.row.N c.wrapped-items.result in
     elim c.then-numbers.branch [
       | then-numbers-via-then-numbers w ↦ rw (ne_eqb _ _ w.if-numbers.true)
       | then-numbers-via-else-numbers+then-not-narrow w ↦
@@ -17,5 +17,5 @@ returns-then-numbers g c =
 
 pub returns : goal.returns
 returns g c =
-    let long = g.met.T.Width.length_of_numbers (replicate g.row.N c.of-items.result) ∙ length-replicate g.row.N c.of-items.result in
+    let long = g.met.T.Width.length_of_numbers (replicate g.row.N c.wrapped-items.result) ∙ length-replicate g.row.N c.wrapped-items.result in
     array_some _ _ _ _ _ _ c.if-numbers.false long c.narrow.ensures.0 c.if-not-narrow.false c.narrow.ensures.1
