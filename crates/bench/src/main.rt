@@ -51,5 +51,5 @@ fn main(rt: HostRuntime) -> io::Result<()> {
         numbers: [0; LONGEST],
         tables: [0; LONGEST],
     };
-    lines::each(&mut rt.reader(), &mut line, &mut desk)
+    lines::answer_all(&mut rt.reader(), &mut line, &mut desk)
 }

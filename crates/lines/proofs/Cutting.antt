@@ -3,22 +3,54 @@ use Prim.Native.Nat.{ℕ, ◌+◌, ◌-◌, ◌^◌, ◌≤◌, ◌<◌}
 use mathlib.Core.Bool.{Bool, true, false, cond}
 use mathlib.Core.List.{List, [], ◌∷◌, ◌++◌}
 use mathlib.Core.Path.{◌≡◌, refl, sym, ◌∙◌, ap}
+use native.Mathlib.Numerals.{add-one}
 use native.Mathlib.Omega.{arith}
 use lib.Dec.{eqb}
-use lib.ListN.{length, length-append, take, drop}
-use lib.Seq.{drop-drop, take_all}
+use borrow.Author.Tests.{eq-eqb, ne_eqb}
+use lib.ListN.{length, length-append, get_or, take, drop, drop_of_length-le}
+use lib.Seq.{drop-cons, drop-drop, take_all}
 use Rattle.std.proofs.lemmas.List.{length-drop}
-use Rattle.std.proofs.Common.{Option, Some, None}
+use Rattle.std.proofs.Common.{Option, Some, None, Result, Ok, Bor}
 use Rattle.std.specs.Io.KnownBytes.{Consumes, IsAtEnd}
-use Rattle.lines.specs.Input.{longer, ended, begun, lines_of, Answered, AllAnswered}
+use Rattle.std.specs.Bool.{⊤}
+use Rattle.std.specs.Fn.{Mut, CalledAt}
+use Rattle.lines.specs.Input.{longer, ended, begun, lines_of, Taken, AllTaken, AllAnswered}
 use Rattle.lines.specs.mirror.Runs.{lengthened, run}
-use Rattle.lines.proofs.Running.{ended-run, begun-run, ended-none, begun-none}
+use Rattle.lines.proofs.Running.{ended-run, begun-run, ended-none as ended-no_newline, begun-none as begun-no_newline}
+
+module _ (room : ℕ) (front line bs : List ℕ) (i : ℕ) where
+  -- at a newline a line ends, and the next one is begun
+  pub ended-newline : i < length bs → get_or bs i 0 ≡ 10 → ended room front line (drop i bs) ≡ line ∷ ended room front front (drop (i + 1) bs)
+  unfolding ended
+  ended-newline l e = rw (add-one i, drop-cons bs i 0 l, eq-eqb (get_or bs i 0) 10 e)
+
+  pub begun-newline : i < length bs → get_or bs i 0 ≡ 10 → begun room front line (drop i bs) ≡ begun room front front (drop (i + 1) bs)
+  unfolding begun
+  begun-newline l e = rw (add-one i, drop-cons bs i 0 l, eq-eqb (get_or bs i 0) 10 e)
+
+  -- another byte lengthens it
+  pub ended-byte : i < length bs → (get_or bs i 0 ≡ 10 → ⊥) → ended room front line (drop i bs) ≡ ended room front (longer room line (get_or bs i 0)) (drop (i + 1) bs)
+  unfolding ended
+  ended-byte l e = rw (add-one i, drop-cons bs i 0 l, ne_eqb (get_or bs i 0) 10 e)
+
+  pub begun-byte : i < length bs → (get_or bs i 0 ≡ 10 → ⊥) → begun room front line (drop i bs) ≡ begun room front (longer room line (get_or bs i 0)) (drop (i + 1) bs)
+  unfolding begun
+  begun-byte l e = rw (add-one i, drop-cons bs i 0 l, ne_eqb (get_or bs i 0) 10 e)
+
+  -- none is left
+  pub ended-none : length bs ≤ i → ended room front line (drop i bs) ≡ []
+  unfolding ended
+  ended-none l = rw (drop_of_length-le bs l)
+
+  pub begun-none : length bs ≤ i → begun room front line (drop i bs) ≡ line
+  unfolding begun
+  begun-none l = rw (drop_of_length-le bs l)
 
 -- the bytes that are left end the same lines behind a line and what answers it as all of them behind those at the start
 pub record Cut {F : Type 0} (g : F → List ℕ → F → Type 0) (room : ℕ) (bs first line : List ℕ) (f : F) (left front now : List ℕ) (h : F) : Type 0 where
   pub same : front ≡ first
   pub rest : begun room front now left ≡ begun room first line bs
-  pub lines : (last : F) → Answered g h (ended room front now left) last → Answered g f (ended room first line bs) last
+  pub lines : (last : F) → Taken g h (ended room front now left) last → Taken g f (ended room first line bs) last
 
 module _ {F : Type 0} (g : F → List ℕ → F → Type 0) (room : ℕ) (bs first line : List ℕ) (f : F) where
   pub uncut : Cut g room bs first line f bs first line f
@@ -41,10 +73,35 @@ module _ {F : Type 0} (g : F → List ℕ → F → Type 0) (room : ℕ) (bs fir
   -- where no newline is left, the last line is begun
   pub cut_rest : (left front now now' : List ℕ) (h : F) → run left ≡ length left → now' ≡ lengthened room now left
       → Cut g room bs first line f left front now h → now' ≡ begun room first line bs
-  cut_rest left front now now' h e p cut = p ∙ sym (begun-none room front now left e) ∙ cut.rest
+  cut_rest left front now now' h e p cut = p ∙ sym (begun-no_newline room front now left e) ∙ cut.rest
 
-  pub cut_lines : (left front now : List ℕ) (h : F) → run left ≡ length left → Cut g room bs first line f left front now h → Answered g f (ended room first line bs) h
-  cut_lines left front now h e cut = cut.lines h (rw (ended-none room front now left e) refl)
+  pub cut_lines : (left front now : List ℕ) (h : F) → run left ≡ length left → Cut g room bs first line f left front now h → Taken g f (ended room first line bs) h
+  cut_lines left front now h e cut = cut.lines h (rw (ended-no_newline room front now left e) refl)
+
+  -- the same byte by byte: at a newline a line ends, and the next one is begun
+  pub cut_newline : (i : ℕ) (front now front' now' : List ℕ) (h h' : F) → i < length bs → get_or bs i 0 ≡ 10
+      → g h now h' → front' ≡ front → now' ≡ front → Cut g room bs first line f (drop i bs) front now h → Cut g room bs first line f (drop (i + 1) bs) front' now' h'
+  cut_newline i front now front' now' h h' l e call p q cut = rw (p, q) record {
+    same = cut.same;
+    rest = sym (begun-newline room front now bs i l e) ∙ cut.rest;
+    lines = λ last a. cut.lines last (rw (ended-newline room front now bs i l e) (h', call, a));
+  }
+
+  -- another byte lengthens it
+  pub cut_byte : (i : ℕ) (front now front' now' : List ℕ) (h : F) → i < length bs → (get_or bs i 0 ≡ 10 → ⊥)
+      → front' ≡ front → now' ≡ longer room now (get_or bs i 0) → Cut g room bs first line f (drop i bs) front now h → Cut g room bs first line f (drop (i + 1) bs) front' now' h
+  cut_byte i front now front' now' h l e p q cut = rw (p, q) record {
+    same = cut.same;
+    rest = sym (begun-byte room front now bs i l e) ∙ cut.rest;
+    lines = λ last a. cut.lines last (rw (ended-byte room front now bs i l e) a);
+  }
+
+  -- none is left
+  pub none_rest : (i : ℕ) (front now : List ℕ) (h : F) → length bs ≤ i → Cut g room bs first line f (drop i bs) front now h → now ≡ begun room first line bs
+  none_rest i front now h l cut = sym (begun-none room front now bs i l) ∙ cut.rest
+
+  pub none_lines : (i : ℕ) (front now : List ℕ) (h : F) → length bs ≤ i → Cut g room bs first line f (drop i bs) front now h → Taken g f (ended room first line bs) h
+  none_lines i front now h l cut = cut.lines h (rw (ended-none room front now bs i l) refl)
 
 -- what is behind the newline at `end`
 pub behind_newline : (end : ℕ) (left xs : List ℕ) → xs ≡ drop end left → take (length xs - 1) (drop 1 xs) ≡ drop 1 (drop end left)
@@ -73,7 +130,7 @@ begun-append room front line (c ∷ cs) bs =
     begun_case (eqb c 10) _ _ _ _ (λ l. begun room front l bs) (begun-append room front front cs bs) (begun-append room front (longer room line c) cs bs)
 
 module _ {F : Type 0} (g : F → List ℕ → F → Type 0) where
-  answered-append : (xs ys : List (List ℕ)) (f h last : F) → Answered g f xs h → Answered g h ys last → Answered g f (xs ++ ys) last
+  answered-append : (xs ys : List (List ℕ)) (f h last : F) → Taken g f xs h → Taken g h ys last → Taken g f (xs ++ ys) last
   answered-append [] ys f h last a b = rw a b
   answered-append (x ∷ xs) ys f h last a b = (a.0, a.1, answered-append xs ys a.0 h last a.2 b)
 
@@ -81,7 +138,7 @@ module _ {F : Type 0} (g : F → List ℕ → F → Type 0) where
   pub record Unread (room : ℕ) (front line : List ℕ) (f : F) (bs : List ℕ) (turn : ℕ) (now : List ℕ) (h : F) (left : List ℕ) : Type 0 where
     pub few : turn + length left ≤ length bs
     pub rest : begun room front now left ≡ begun room front line bs
-    pub lines : (last : F) → Answered g h (ended room front now left) last → Answered g f (ended room front line bs) last
+    pub lines : (last : F) → Taken g h (ended room front now left) last → Taken g f (ended room front line bs) last
 
   -- the same of an input whose bytes may be known
   abbrev pub Left : (room : ℕ) (front line : List ℕ) (f : F) → Option (List ℕ) → ℕ → List ℕ → F → Option (List ℕ) → Type 0
@@ -96,7 +153,7 @@ module _ {F : Type 0} (g : F → List ℕ → F → Type 0) where
 
     -- some of it was read, and its lines answered
     pub read_some : (known was is : Option (List ℕ)) (turn : ℕ) (now now' : List ℕ) (h h' : F) (some : List ℕ) → 0 < length some
-        → Consumes was is some → now' ≡ begun room front now some → Answered g h (ended room front now some) h'
+        → Consumes was is some → now' ≡ begun room front now some → Taken g h (ended room front now some) h'
         → Left room front line f known turn now h was → Left room front line f known (turn + 1) now' h' is
     read_some None was is turn now now' h h' some l c e a left = tt
     read_some (Some bs) None is turn now now' h h' some l c e a left = absurd left
@@ -107,15 +164,15 @@ module _ {F : Type 0} (g : F → List ℕ → F → Type 0) where
       lines = λ last b. left.lines last (rw (c, ended-append room front now some ys) (answered-append (ended room front now some) _ h h' last a (rw (← e) b)));
     }
 
-    nothing_left : (bs now : List ℕ) (turn : ℕ) (h h' : F) (t : Bool) → eqb (length now) (length front) ≡ t → Answered g h (cond t [] (now ∷ [])) h'
-        → Unread room front line f bs turn now h [] → Answered g f (lines_of room front line bs) h'
+    nothing_left : (bs now : List ℕ) (turn : ℕ) (h h' : F) (t : Bool) → eqb (length now) (length front) ≡ t → Taken g h (cond t [] (now ∷ [])) h'
+        → Unread room front line f bs turn now h [] → Taken g f (lines_of room front line bs) h'
     unfolding lines_of ended begun
     nothing_left bs now turn h h' t e a left =
         rw (← left.rest, e) (answered-append (ended room front line bs) (cond t [] (now ∷ [])) f h h' (left.lines h refl) a)
 
     -- all of it was read, and its last line answered
-    pub read_all : (known was is : Option (List ℕ)) (turn : ℕ) (now : List ℕ) (h h' : F) (t : Bool) → eqb (length now) (length front) ≡ t → Answered g h (cond t [] (now ∷ [])) h'
-        → Consumes was is [] → IsAtEnd is → Left room front line f known turn now h was → AllAnswered g room front line f known h'
+    pub read_all : (known was is : Option (List ℕ)) (turn : ℕ) (now : List ℕ) (h h' : F) (t : Bool) → eqb (length now) (length front) ≡ t → Taken g h (cond t [] (now ∷ [])) h'
+        → Consumes was is [] → IsAtEnd is → Left room front line f known turn now h was → AllTaken g room front line f known h'
     read_all None was is turn now h h' t e a c end left = tt
     read_all (Some bs) None is turn now h h' t e a c end left = absurd left
     read_all (Some bs) (Some xs) None turn now h h' t e a c end left = absurd c
@@ -125,7 +182,13 @@ module _ {F : Type 0} (g : F → List ℕ → F → Type 0) where
 
     -- each turn takes a byte, so an input of no more bytes than turns is read to its end
     pub out_of_turns : (known was : Option (List ℕ)) (turn : ℕ) (now : List ℕ) (h : F) → 2 ^ 64 - 1 ≤ turn
-        → Left room front line f known turn now h was → AllAnswered g room front line f known h
+        → Left room front line f known turn now h was → AllTaken g room front line f known h
     out_of_turns None was turn now h l left = tt
     out_of_turns (Some bs) None turn now h l left = absurd left
     out_of_turns (Some bs) (Some xs) turn now h l left = λ few. absurd (omega (arith, left.few))
+
+-- where the calls of a closure took each line, it was called at each
+pub all_called : {F E : Type 0} (g : Mut F (Bor (List ℕ) × Unit {0}) (Result ⊤ E)) (room : ℕ) (front line : List ℕ) (f : F) (known : Option (List ℕ)) (last : F)
+    → AllTaken (λ p x q. CalledAt g p x (Ok tt) q) room front line f known last → AllAnswered g room front line f known
+all_called g room front line f None last a = tt
+all_called g room front line f (Some bs) last a = λ few. (last, a few)

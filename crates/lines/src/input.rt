@@ -1,6 +1,6 @@
 // The lines of an input: a reader that is run to its end.
 ghost use Rattle.std.specs.Prelude.{◌≡◌, ◌<◌, ℕ, List, length, OnOk, MatchOption};
-ghost use Rattle.lines.specs.Input.{ended, begun, Answered, AllAnswered};
+ghost use Rattle.lines.specs.Input.{ended, begun, Taken, AllTaken};
 ghost use Rattle.lines.specs.Held.{front_of, held};
 ghost use Rattle.lines.specs.mirror.Runs.{run};
 
@@ -9,7 +9,7 @@ use std::io;
 use std::io::Read;
 
 // As many bytes as are read at once.
-const CHUNK: usize = 65536;
+pub(crate) const CHUNK: usize = 65536;
 
 // Where the first newline stands.
 fn newline(bytes: &[u8]) -> Option<usize>
@@ -19,7 +19,7 @@ fn newline(bytes: &[u8]) -> Option<usize>
 }
 
 // What answers the lines of an input, one behind another.
-// kept: a trait and no closure, which a function may call only where it `requires` that of its caller
+// kept: a trait beside `each`, which takes a closure: a function may call one only where it `requires` that of its caller
 pub trait Answerer {
     // What it is after a line that it did not refuse.
     ghost took: { Self → List ℕ → Self → Type 0 };
@@ -29,7 +29,7 @@ pub trait Answerer {
 }
 
 // Each line that ends among the bytes is answered. A line that is refused ends it.
-fn take_in<const ROOM: usize, A: Answerer>(
+fn take_all<const ROOM: usize, A: Answerer>(
     line: &mut Line<ROOM>,
     input: &[u8],
     answerer: &mut A,
@@ -37,7 +37,7 @@ fn take_in<const ROOM: usize, A: Answerer>(
     ensures front { front_of line.new ≡ front_of line.old }
     ensures rest { OnOk result (held line.new
         ≡ begun ROOM (front_of line.old) (held line.old) input.now) }
-    ensures answered { OnOk result (Answered A.took answerer.old
+    ensures answered { OnOk result (Taken A.took answerer.old
         (ended ROOM (front_of line.old) (held line.old) input.now) answerer.new) }
 {
     let mut rest = input;
@@ -53,12 +53,12 @@ fn take_in<const ROOM: usize, A: Answerer>(
 }
 
 // Each line of the input is answered, the last one too where no newline ends it. A line that is refused ends it, and so does a read.
-pub fn each<const ROOM: usize, R: Read, A: Answerer>(
+pub fn answer_all<const ROOM: usize, R: Read, A: Answerer>(
     reader: &mut R,
     line: &mut Line<ROOM>,
     answerer: &mut A,
 ) -> io::Result<()>
-    ensures { OnOk result (AllAnswered A.took ROOM (front_of line.old) (held line.old)
+    ensures { OnOk result (AllTaken A.took ROOM (front_of line.old) (held line.old)
         answerer.old (R.remaining reader.old) answerer.new) }
 {
     let mut input = [0u8; CHUNK];
@@ -72,7 +72,7 @@ pub fn each<const ROOM: usize, R: Read, A: Answerer>(
             }
             return Ok(());
         }
-        take_in(line, &input[..count], answerer)?;
+        take_all(line, &input[..count], answerer)?;
     }
     Ok(())
 }

@@ -52,6 +52,6 @@ fn main(rt: HostRuntime) -> io::Result<()> {
         log: Log::new(),
         numbers: [0; LONGEST],
     };
-    lines::each(&mut rt.reader(), &mut line, &mut book)?;
+    lines::answer_all(&mut rt.reader(), &mut line, &mut book)?;
     tell(&rt, &book.log)
 }

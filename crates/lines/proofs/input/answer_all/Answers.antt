@@ -1,11 +1,10 @@
--- `lines::input::each` meets its contract: what is left of an input whose bytes are known ends the same lines as all of it. Assumes nothing.
+-- `lines::input::answer_all` meets its contract: what is left of an input whose bytes are known ends the same lines as all of it. Assumes nothing.
 use mathlib.Core.Bool.{true, false}
 use mathlib.Core.Path.{refl, sym, ◌∙◌}
 use native.Mathlib.Omega.{arith}
 use lib.ListN.{length-take}
-use Rattle.std.proofs.Common.{rules}
 use Rattle.lines.proofs.Cutting.{unread, read_some, read_all, out_of_turns}
-use Rattle.lines.proofs.input.each.Goals as goal
+use Rattle.lines.proofs.input.answer_all.Goals as goal
 
 pub loop-turn-init : goal.loop-turn-init
 loop-turn-init g c = record { front = refl; left = unread _ _ _ _ _ _ }
@@ -13,7 +12,7 @@ loop-turn-init g c = record { front = refl; left = unread _ _ _ _ _ _ }
 pub loop-turn-preserved : goal.loop-turn-preserved
 loop-turn-preserved g c =
     let was = c.loop-turn.invariant in
-    let ok = c.in_ok-take_in.ensures in
+    let ok = c.in_ok-take_all.ensures in
     record {
       front = ok.front ∙ was.front;
       left = read_some _ _ _ _ _ _ _ _ _ _ _ _ _ _ (simp length-take (omega arith)) c.in_ok-count.ensures.bytes.0

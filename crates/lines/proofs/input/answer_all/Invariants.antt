@@ -1,8 +1,8 @@
--- `lines::input::each` meets its contract: what is left of an input whose bytes are known ends the same lines as all of it. Assumes nothing.
+-- `lines::input::answer_all` meets its contract: what is left of an input whose bytes are known ends the same lines as all of it. Assumes nothing.
 use mathlib.Core.Path.{◌≡◌}
 use Rattle.lines.specs.Held.{front_of, held}
 use Rattle.lines.proofs.Cutting.{Left}
-use Rattle.lines.proofs.input.each.Given as goal
+use Rattle.lines.proofs.input.answer_all.Given as goal
 
 abbrev pub invariant-loop-turn : goal.invariant-loop-turn
 invariant-loop-turn g l = record {

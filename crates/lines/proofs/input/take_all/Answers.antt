@@ -1,8 +1,8 @@
--- `lines::input::take_in` meets its contract: the bytes that are left end the same lines as all of them. Assumes nothing.
+-- `lines::input::take_all` meets its contract: the bytes that are left end the same lines as all of them. Assumes nothing.
 use mathlib.Core.Path.{◌∙◌}
 use Rattle.std.proofs.Common.{rules}
 use Rattle.lines.proofs.Cutting.{uncut, behind_newline, cut_run, cut_rest, cut_lines}
-use Rattle.lines.proofs.input.take_in.Goals as goal
+use Rattle.lines.proofs.input.take_all.Goals as goal
 
 pub loop-end-init : goal.loop-end-init
 loop-end-init g c = uncut _ _ _ _ _ _
