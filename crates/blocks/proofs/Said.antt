@@ -43,3 +43,7 @@ of_words part.Other xs ys e = ap (row_of part.Other) (e refl)
 pub said_same : (v w : Row) → said v ≡ said w → (said v ≡ part.Other → four_of v ≡ four_of w) → v ≡ w
 said_same v w e f =
     sym (said_row v) ∙ of_words (said v) (four_of v) (four_of w) f ∙ ap (λ (p : PartRow). row_of p (four_of w)) e ∙ said_row w
+
+-- any two rows that meet the promise of `Block::row`, or of `row_at`, are equal
+pub one_row : (says : PartRow) (words : List ℕ) (v w : Row) → (said v ≡ says) × (four_of v ≡ words) → (said w ≡ says) × (four_of w ≡ words) → v ≡ w
+one_row says words v w a b = said_same v w (a.0 ∙ sym b.0) (λ none. a.1 ∙ sym b.1)

@@ -66,7 +66,7 @@ pub fn row_at(tables: &[u16], start: usize, row: usize) -> Row
 
 // The row that a row's word names.
 fn row_in(tables: &[u16], start: usize, row: u16) -> Row
-    ensures { said result ≡ row_at tables.now start row }
+    ensures { (said result ≡ row_at tables.now start row) × (four_of result ≡ row_words tables.now (start + row)) }
 {
     row_at(tables, start, usize::from(row))
 }
@@ -156,7 +156,8 @@ impl<'a> Block<'a> {
 
     // A row of the block. Past the block's end it is the next block's, and past the end of the tables its words are 0.
     pub fn row(&self, row: u16) -> Row
-        ensures { said result ≡ part_row self.now.tables.now self.now.roles self.now.role row }
+        ensures { (said result ≡ part_row self.now.tables.now self.now.roles self.now.role row)
+            × (four_of result ≡ row_words self.now.tables.now (self.now.start + row)) }
     {
         row_in(self.tables, usize::from(self.start), row)
     }
@@ -175,5 +176,30 @@ impl<'a> Block<'a> {
     {
         let start = usize::from(self.start);
         find_arm(self.tables, start, usize::from(self.rows), first, label)
+    }
+}
+
+#[cfg(test)]
+mod tests {
+    use super::*;
+    use crate::tables::Blocks;
+
+    // Role 0 sends label 0 to role 1, and both end.
+    const TABLES: [u16; 24] = [
+        5, 1, 1, 0, 2, 0, 2, 0, 0, 0, 0, 0, 6, 0, 1, 0, 2, 0, 2, 0, 0, 0, 0, 0,
+    ];
+
+    #[test]
+    fn rows_are_read_whole(rt: HostRuntime) {
+        let blocks = Blocks::of(&TABLES, 2).expect(&rt, "the tables are well formed");
+        let block = blocks.block(1);
+        assert_eq!(rt; block.row(0), Row::Receive(0, 1, 0));
+        assert_eq!(rt; block.row(1), Row::Arm(0, 2, 0));
+        assert_eq!(rt;
+            block.row(9),
+            Row::End(0, 0, 0),
+            "past the end of the tables"
+        );
+        assert_eq!(rt; row_at(&[7, 1, 2, 3], 0, 0), Row::Other(7, 1, 2, 3));
     }
 }

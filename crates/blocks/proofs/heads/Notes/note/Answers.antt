@@ -10,4 +10,4 @@ loop-taken-preserved c =
     let (same, far) = c.loop-taken.invariant in
     let e : c.args.far - c.loop-taken.taken - 1 ≡ c.args.far - (c.loop-taken.taken + 1) = omega arith in
     let o : Onward c.row.result c.match-row.at = elim c.match-row.branch [ in-Loop w ↦ rw w.at-is w.in-Loop.is | in-Loop-2 w ↦ rw w.at-is w.in-Loop.is ] in
-    (same, rw (← e) (far_on _ _ _ _ _ _ (omega arith) (leads_on_lem _ _ _ _ c.row.ensures _ o) far))
+    (same, rw (← e) (far_on _ _ _ _ _ _ (omega arith) (leads_on_lem _ _ _ _ c.row.ensures.0 _ o) far))

@@ -10,7 +10,7 @@ pub returns-in_default : goal.returns-in_default
 returns-in_default c =
     rw (c.then_some.ensures, c.stands.ensures)
     (came_stands _ _ _ _ _ _ _ c.args.self.now.block.rows_are c.loop-taken.invariant.1 _ c.loop-taken-test.true
-    (stays _ _ _ _ c.row-part.ensures c.in_default.not-Loop c.in_default.not-Back))
+    (stays _ _ _ _ c.row-part.ensures.0 c.in_default.not-Loop c.in_default.not-Back))
 
 pub returns-then-left-gt0 : goal.returns-then-left-gt0
 returns-then-left-gt0 c =
@@ -25,9 +25,9 @@ returns-then-left-gt0 c =
 pub returns-then-rows-on : goal.returns-then-rows-on
 returns-then-rows-on c =
     let o : Onward c.row-part.result c.match-part.on = elim c.match-part.branch [ in-Loop w ↦ rw w.on-is w.in-Loop.is | in-Loop-2 w ↦ rw w.on-is w.in-Loop.is ] in
-    inl (leads_out _ _ _ _ _ c.args.self.now.block.rows_are c.loop-taken.invariant.0 _ c.row-part.ensures o c.if-rows-on.true)
+    inl (leads_out _ _ _ _ _ c.args.self.now.block.rows_are c.loop-taken.invariant.0 _ c.row-part.ensures.0 o c.if-rows-on.true)
 
 pub loop-taken-preserved : goal.loop-taken-preserved
 loop-taken-preserved c =
     let o : Onward c.row-part.result c.match-part.on = elim c.match-part.branch [ in-Loop w ↦ rw w.on-is w.in-Loop.is | in-Loop-2 w ↦ rw w.on-is w.in-Loop.is ] in
-    (omega arith, came_on _ _ _ _ _ _ _ c.loop-taken.invariant.1 (leads_on_lem _ _ _ _ c.row-part.ensures _ o))
+    (omega arith, came_on _ _ _ _ _ _ _ c.loop-taken.invariant.1 (leads_on_lem _ _ _ _ c.row-part.ensures.0 _ o))
