@@ -201,5 +201,13 @@ mod tests {
             "past the end of the tables"
         );
         assert_eq!(rt; row_at(&[7, 1, 2, 3], 0, 0), Row::Other(7, 1, 2, 3));
+        let bad = Block {
+            tables: &[7, 1, 2, 3],
+            roles: 1,
+            role: 0,
+            rows: 1,
+            start: 0,
+        };
+        assert_eq!(rt; bad.row(0), Row::Other(7, 1, 2, 3));
     }
 }

@@ -172,6 +172,31 @@ pub fn copy(numbers: &[u32], out: &mut [u32])
 mod tests {
     use super::*;
 
+    // A kind of 7 bits, which leaves `wrapped` to the trait.
+    #[derive(Clone, Copy, Debug, PartialEq, Eq)]
+    struct Low(u8);
+
+    impl Width for Low {
+        ghost use Rattle.std.specs.Prelude.{map};
+        ghost use Rattle.std.proofs.lemmas.List.{length-map, map-set};
+
+        ghost number = { λ x. x.0 };
+
+        ghost numbers = { λ xs. map (λ x. x.0) xs };
+
+        ghost MAX = { 127 };
+
+        const MAX: u32 = 127;
+
+        ghost length_of_numbers = { λ xs. length-map xs _ };
+
+        ghost numbers_of_set = { λ xs i x. map-set _ xs i x };
+
+        fn of(n: u32) -> Low {
+            Low(n as u8)
+        }
+    }
+
     #[test]
     fn numbers_of_each_width(rt: HostRuntime) {
         assert_eq!(rt; u8::of(255), 255);
@@ -180,5 +205,7 @@ mod tests {
         assert_eq!(rt; u8::wrapped(258), 2);
         assert_eq!(rt; u16::wrapped(65539), 3);
         assert_eq!(rt; u32::wrapped(u32::MAX), u32::MAX);
+        assert_eq!(rt; Low::of(127), Low(127));
+        assert_eq!(rt; Low::wrapped(130), Low(2));
     }
 }

@@ -228,6 +228,7 @@ mod tests {
         let state = state_of(&sent);
         assert_eq!(rt; state.count(0, 1), 4);
         assert_eq!(rt; state.count(0, 9), 0, "9 is no role");
+        assert_eq!(rt; state.count(8, 1), 0, "8 is none either");
         assert_eq!(rt; state.send_turn(&first, 1, 0), Err(Refusal::Full));
         assert_eq!(rt; state.receive_turn(&second, 0), Ok(2));
         assert_eq!(rt;
@@ -236,5 +237,13 @@ mod tests {
         );
         assert!(rt; !state.can_act(&first));
         assert!(rt; state.can_act(&second));
+        let lonely = Block {
+            tables: &[5, 8, 0, 0],
+            roles: 1,
+            role: 0,
+            rows: 1,
+            start: 0,
+        };
+        assert!(rt; !state.can_act(&lonely), "its peer is no role");
     }
 }
