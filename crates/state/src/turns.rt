@@ -26,7 +26,7 @@ impl State<'_> {
         self.counts[sender * Table::ROLES + receiver]
     }
 
-    // The same of any two numbers: no message where one of them is no role.
+    // The same of any two numbers: no message where one of them is above any role's.
     pub fn count(&self, sender: usize, receiver: usize) -> u8
         ensures { ((sender < base.roles) × (receiver < base.roles) → result ≡ held base (seen self.now) sender receiver)
             × (base.roles ≤ sender → result ≡ 0) × (base.roles ≤ receiver → result ≡ 0) }
@@ -87,7 +87,7 @@ impl State<'_> {
         }
     }
 
-    // The same for a receiver of any number: refused with rule 14 where that is no role.
+    // The same for a receiver of any number: refused with rule 14 where that is above any role's.
     pub fn send_turn(
         &self,
         block: &Block<'_>,
@@ -137,7 +137,7 @@ impl State<'_> {
         }
     }
 
-    // The same for a sender of any number: refused with rule 14 where that is no role.
+    // The same for a sender of any number: refused with rule 14 where that is above any role's.
     pub fn receive_turn(&self, block: &Block<'_>, sender: usize) -> Result<u16, Refusal>
         ensures { (sender < base.roles → result ≡ receive_from base block.now.tables.now block.now.roles block.now.role sender (seen self.now))
             × (base.roles ≤ sender → result ≡ Err Party) }
@@ -169,7 +169,7 @@ impl State<'_> {
         }
     }
 
-    // The same where the peer of its head may be no role: then no call would be accepted.
+    // The same where the peer of its head may be a number above any role's: then no call would be accepted.
     pub fn can_act(&self, block: &Block<'_>) -> bool
         ensures { (LowPeer base (part_row block.now.tables.now block.now.roles block.now.role (head_of (seen self.now) block.now.role))
             → result ≡ is_awaited base block.now.tables.now block.now.roles (seen self.now) block.now.role)
